@@ -1,0 +1,62 @@
+-- Demand 3: the claims about every list of calls. Their proofs are in proofs/.
+-- Premise of both: each call is lent the words that the call before left, the first those that an accepted opening left.
+use mathlib.Core.Path.{_≡_}
+use mathlib.Core.Bool.{Bool, true, false, cond, not, _&&_, _||_}
+use mathlib.Core.List.{List, [], _∷_}
+use Prim.Native.Nat.{ℕ}
+use lib.Dec.{eqb}
+use lib.IntN.{ℤ}
+use lib.ListN.{length}
+use Rattle.offer_rules.specs.Numbers.{toNat}
+use Rattle.book_rules.specs.Record.{call-of, facility-of, between}
+use Rattle.book_rules.specs.Words.{opening-number, opening-words}
+use Rattle.book_rules.specs.Force.{Answer}
+use Rattle.book_rules.specs.Book.{book-answer, book-after, book-answers, book-run}
+use Rattle.book_rules.specs.ListMachine.{list-answers}
+
+-- For every words lent, every F, S and limits that the opening accepts and every list of byte strings,
+-- the book's answers (number, 24 words, sum) are the list machine's.
+unfoldable pub EveryList : Type 0
+EveryList = (w : List ℤ) (F S : ℤ) (limits : List ℤ) → length limits ≡ 6 → opening-number w F S limits ≡ 0
+    → (bs : List (List ℕ)) → book-answers (opening-words w F S limits) bs ≡ list-answers (toNat F) (toNat S) limits [] bs
+
+-- "Filings are calls 2 to 5, each for the facility in byte 6": a filing for another facility than f.
+unfoldable pub is-others-filing : ℕ → List ℕ → Bool
+is-others-filing f b = between 2 5 (call-of b) && not (eqb (facility-of b) f)
+
+abbrev pub is-look-up-for : ℕ → List ℕ → Bool
+is-look-up-for f b = eqb (call-of b) 8 && eqb (facility-of b) f
+
+abbrev pub is-accepted : List ℤ → List ℕ → Bool
+is-accepted w b = eqb (book-answer w b .number) 0
+
+-- The list without its refused calls and without the filings for other facilities than f;
+-- "Which calls are refused is read from the run of the whole list", which starts from w.
+unfoldable pub struck-out : ℕ → List ℤ → List (List ℕ) → List (List ℕ)
+struck-out f w [] = []
+struck-out f w (b ∷ bs) =
+    cond (is-accepted w b && not (is-others-filing f b)) (b ∷ struck-out f (book-after w b) bs) (struck-out f (book-after w b) bs)
+
+-- After the shorter list every look-up for f, accepted or refused, returns what it returns after the whole one.
+-- (With the part of a list before a look-up for the whole list, this speaks of every look-up inside it.)
+unfoldable pub StrikingOut : Type 0
+StrikingOut = (w : List ℤ) (F S : ℤ) (limits : List ℤ) → length limits ≡ 6 → opening-number w F S limits ≡ 0
+    → (f : ℕ) (bs : List (List ℕ)) (q : List ℕ) → is-look-up-for f q ≡ true
+    → book-answer (book-run (opening-words w F S limits) (struck-out f (opening-words w F S limits) bs)) q
+    ≡ book-answer (book-run (opening-words w F S limits) bs) q
+
+-- The answers to the look-ups for f in a run from w, and those of them that are accepted.
+unfoldable pub look-ups : ℕ → List ℤ → List (List ℕ) → List Answer
+look-ups f w [] = []
+look-ups f w (b ∷ bs) = cond (is-look-up-for f b) (book-answer w b ∷ look-ups f (book-after w b) bs) (look-ups f (book-after w b) bs)
+
+unfoldable pub accepted-look-ups : ℕ → List ℤ → List (List ℕ) → List Answer
+accepted-look-ups f w [] = []
+accepted-look-ups f w (b ∷ bs) =
+    cond (is-accepted w b && is-look-up-for f b) (book-answer w b ∷ accepted-look-ups f (book-after w b) bs) (accepted-look-ups f (book-after w b) bs)
+
+-- In the run of the shorter list the look-ups for f that it keeps are answered, one by one, as in the run of the whole one.
+unfoldable pub StrikingOutInside : Type 0
+StrikingOutInside = (w : List ℤ) (F S : ℤ) (limits : List ℤ) → length limits ≡ 6 → opening-number w F S limits ≡ 0
+    → (f : ℕ) (bs : List (List ℕ))
+    → look-ups f (opening-words w F S limits) (struck-out f (opening-words w F S limits) bs) ≡ accepted-look-ups f (opening-words w F S limits) bs

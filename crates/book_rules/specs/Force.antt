@@ -1,0 +1,88 @@
+-- Document 01, "Offer in force": what a state shows to the rules, the offer in force, and answers.
+use mathlib.Core.Bool.{Bool}
+use mathlib.Core.List.{List, [], _∷_}
+use mathlib.Core.Option.{Option, none, some}
+use Prim.Native.Nat.{ℕ, zero, suc, _+_}
+use lib.IntN.{ℤ, pos, _+ℤ_}
+use Rattle.offer_rules.specs.Time.{slot-of}
+use Rattle.offer_rules.specs.Offer.{Pair, pairs, sum-of}
+use Rattle.offer_rules.specs.Gate.{Window}
+use Rattle.book_rules.specs.Words.{zeros}
+
+-- What the rules read of a state, whether a book's words or a list of accepted calls; an offer is its words 1 to 23.
+pub record View : Type 0 where
+  pub facilities : ℕ
+  pub services : ℕ
+  pub limits : List ℤ
+  pub now : ℕ
+  pub capability : ℕ → List ℤ
+  pub outage : ℕ → Window
+  pub notice : ℕ → Window
+  pub standing : ℕ → ℕ → ℕ → Option (List ℤ)
+  pub variation : ℕ → ℕ → ℕ → Option (List ℤ)
+
+-- "all windows 1 to 0 (empty)"
+abbrev pub empty-window : Window
+empty-window = record { first = pos 1; last = pos 0 }
+
+pub data InForce : Type 0 where
+  no-offer : InForce
+  standing-offer : List ℤ → InForce
+  offer-variation : List ℤ → InForce
+
+-- "the variation cell if its stamp is P + 1, else the standing cell if its stamp is 1, else none"
+unfoldable pub first-of : Option (List ℤ) → Option (List ℤ) → InForce
+first-of (some o) standing = offer-variation o
+first-of none (some o) = standing-offer o
+first-of none none = no-offer
+
+-- "For (f, s, P)"
+unfoldable pub in-force : View → ℕ → ℕ → ℕ → InForce
+in-force vw f s p = first-of (vw .variation f s p) (vw .standing f s (slot-of p))
+
+-- "none has total 0"
+unfoldable pub pairs-of : InForce → List Pair
+pairs-of no-offer = []
+pairs-of (standing-offer o) = pairs o
+pairs-of (offer-variation o) = pairs o
+
+-- "sum: its ten quantities added"
+abbrev pub quantity-of : InForce → ℤ
+quantity-of x = sum-of (pairs-of x)
+
+unfoldable pub counted : InForce → ℕ
+counted no-offer = 0
+counted (standing-offer o) = 1
+counted (offer-variation o) = 1
+
+-- The first n facilities' offers in force: how many there are, and their sum.
+unfoldable pub count-in-force : View → ℕ → ℕ → ℕ → ℕ
+count-in-force vw s p zero = 0
+count-in-force vw s p (suc n) = count-in-force vw s p n + counted (in-force vw n s p)
+
+unfoldable pub sum-in-force : View → ℕ → ℕ → ℕ → ℤ
+sum-in-force vw s p zero = pos 0
+sum-in-force vw s p (suc n) = sum-in-force vw s p n +ℤ quantity-of (in-force vw n s p)
+
+-- "Each call returns a number, 24 words and a sum (signed 64-bit)."
+pub record Answer : Type 0 where
+  pub number : ℕ
+  pub words : List ℤ
+  pub sum : ℤ
+
+-- "Otherwise words and sum are zero." So they are beside every refusal.
+unfoldable pub plain : ℕ → Answer
+plain n = record { number = n; words = zeros 24; sum = pos 0 }
+
+-- "Look-up: word 0 is 1 (standing) or 2 (variation), then cell words 1–23"
+unfoldable pub found-words : InForce → List ℤ
+found-words no-offer = zeros 24
+found-words (standing-offer o) = pos 1 ∷ o
+found-words (offer-variation o) = pos 2 ∷ o
+
+unfoldable pub found : InForce → Answer
+found x = record { number = 0; words = found-words x; sum = quantity-of x }
+
+-- "Total: word 0 counts facilities with an offer in force, other words zero; sum over them."
+unfoldable pub totalled : ℕ → ℤ → Answer
+totalled n z = record { number = 0; words = pos n ∷ zeros 23; sum = z }

@@ -1,0 +1,84 @@
+-- Document 01, "The list machine". It has no table: nothing here names a cell, a stamp or a place.
+-- "State: the opening's F, S and limits, and the list of accepted calls, newest first."
+use mathlib.Core.Bool.{Bool, true, false, cond, _&&_}
+use mathlib.Core.List.{List, [], _∷_}
+use mathlib.Core.Option.{Option, none, some}
+use Prim.Native.Nat.{ℕ, _+_, _/_}
+use lib.Dec.{eqb}
+use lib.IntN.{ℤ, pos}
+use Rattle.offer_rules.specs.Numbers.{eqZ, toNat}
+use Rattle.offer_rules.specs.Gate.{Window}
+use Rattle.book_rules.specs.Record.{call-of, facility-of, service-of, period-word, reason-of, word-A, word-B, capability-in, offer-in}
+use Rattle.book_rules.specs.Words.{zeros}
+use Rattle.book_rules.specs.Force.{View, Answer, empty-window}
+use Rattle.book_rules.specs.Refusals.{answer, after}
+
+-- What the newest call says to which the test applies; `before` where there is none.
+unfoldable pub newest : {A : Type 0} → (List ℕ → Bool) → (List ℕ → A) → A → List (List ℕ) → A
+newest test says before [] = before
+newest test says before (c ∷ l) = cond (test c) (says c) (newest test says before l)
+
+abbrev pub is-for : ℕ → ℕ → List ℕ → Bool
+is-for k f c = eqb (call-of c) k && eqb (facility-of c) f
+
+abbrev pub is-offer-for : ℕ → ℕ → ℕ → ℕ → List ℕ → Bool
+is-offer-for k f s p c = is-for k f c && (eqb (service-of c) s && eqZ (period-word c) (pos p))
+
+-- "Clock: newest call 1's minute, else 0."
+unfoldable pub list-clock : List (List ℕ) → ℤ
+list-clock l = newest (λ c. eqb (call-of c) 1) word-A (pos 0) l
+
+-- "Capability, outage: newest for f." "None yet: kind 0, an empty window, no offer."
+unfoldable pub list-capability : List (List ℕ) → ℕ → List ℤ
+list-capability l f = newest (is-for 2 f) capability-in (zeros 17) l
+
+-- "Its window is m div 30 + 1 to m div 30 + n."
+unfoldable pub outage-window : List ℕ → Window
+outage-window c = record { first = pos (toNat (word-A c) / 30 + 1); last = pos (toNat (word-A c) / 30 + toNat (word-B c)) }
+
+unfoldable pub list-outage : List (List ℕ) → ℕ → Window
+list-outage l f = newest (is-for 5 f) outage-window empty-window l
+
+-- "Notice: newest of its kind, for kind 5 unless a withdrawal is newer."
+unfoldable pub list-notice : List (List ℕ) → ℕ → Window
+list-notice [] k = empty-window
+list-notice (c ∷ l) k =
+    cond (eqb (call-of c) 6 && eqb (reason-of c) k) (record { first = word-A c; last = word-B c })
+    (cond (eqb (call-of c) 7 && eqb k 5) empty-window (list-notice l k))
+
+-- "Standing: newest for (f, s, slot)."
+unfoldable pub list-standing : List (List ℕ) → ℕ → ℕ → ℕ → Option (List ℤ)
+list-standing l f s k = newest (is-offer-for 3 f s k) (λ c. some (offer-in c)) none l
+
+-- "Variation: newest for (f, s, P), with P whole, not its slot."
+unfoldable pub list-variation : List (List ℕ) → ℕ → ℕ → ℕ → Option (List ℤ)
+list-variation l f s p = newest (is-offer-for 4 f s p) (λ c. some (offer-in c)) none l
+
+unfoldable pub list-view : ℕ → ℕ → List ℤ → List (List ℕ) → View
+list-view F S limits l = record {
+  facilities = F;
+  services = S;
+  limits = limits;
+  now = toNat (list-clock l);
+  capability = list-capability l;
+  outage = list-outage l;
+  notice = list-notice l;
+  standing = list-standing l;
+  variation = list-variation l;
+}
+
+-- "if accepted it joins the list"
+abbrev pub list-accept : List (List ℕ) → List ℕ → List (List ℕ)
+list-accept l b = b ∷ l
+
+module _ (F S : ℕ) (limits : List ℤ) where
+  abbrev pub list-answer : List (List ℕ) → List ℕ → Answer
+  list-answer = answer (List (List ℕ)) (list-view F S limits) list-accept
+
+  abbrev pub list-after : List (List ℕ) → List ℕ → List (List ℕ)
+  list-after = after (List (List ℕ)) (list-view F S limits) list-accept
+
+  -- "The machine is fed the records alone, damaged ones too." The answers to a list of them, from a list of accepted calls on.
+  unfoldable pub list-answers : List (List ℕ) → List (List ℕ) → List Answer
+  list-answers l [] = []
+  list-answers l (b ∷ bs) = list-answer l b ∷ list-answers (list-after l b) bs

@@ -1,0 +1,139 @@
+-- Document 01, "Who draws which number": what each call draws and answers, over what a state shows.
+-- 2, 3 and 4 are in Record, 10 to 17 in offer_rules, 1 and 20 in Words.
+use mathlib.Core.Bool.{Bool, true, false, cond, not, _&&_, _||_}
+use mathlib.Core.List.{List, [], _∷_}
+use mathlib.Core.Option.{Option, none, some}
+use Prim.Native.Nat.{ℕ, zero, suc, _+_, _/_}
+use lib.Dec.{leb, eqb}
+use lib.IntN.{ℤ, pos}
+use lib.Signed.{leZ}
+use Rattle.offer_rules.specs.Numbers.{eqZ, toNat, word, beyond, draw, _then_}
+use Rattle.offer_rules.specs.Time.{period-refused}
+use Rattle.offer_rules.specs.Offer.{kind-of, is-generation, is-load, mark-for, pairs, standing-rules, variation-rules}
+use Rattle.offer_rules.specs.Gate.{Window, Grounds, gate-refuses, standing-gate-refuses}
+use Rattle.book_rules.specs.Record.{call-of, facility-of, service-of, period-word, reason-of, word-A, word-B, capability-in, offer-in, between, record-number}
+use Rattle.book_rules.specs.Words.{any-beyond}
+use Rattle.book_rules.specs.Force.{View, InForce, in-force, pairs-of, counted, count-in-force, sum-in-force, Answer, plain, found, totalled}
+
+-- 5 "facility has kind neither 1 nor 2 in the book (calls 3, 4, 5, 8)"
+unfoldable pub has-kind : List ℤ → Bool
+has-kind c = is-generation (kind-of c) || is-load (kind-of c)
+
+unfoldable pub facility-number : List ℤ → ℕ
+facility-number c = draw (not (has-kind c)) 5
+
+-- 6 "A below now or above 1,000,000,000"
+unfoldable pub clock-number : ℕ → ℤ → ℕ
+clock-number now a = draw (beyond (pos now) (pos 1000000000) a) 6
+
+-- 7 "outage: not 0 ≤ m ≤ now, or n outside 1–3 (load 1–48)"
+unfoldable pub outage-number : ℕ → List ℤ → ℤ → ℤ → ℕ
+outage-number now c m n = draw (beyond (pos 0) (pos now) m || beyond (pos 1) (cond (is-load (kind-of c)) (pos 48) (pos 3)) n) 7
+
+-- 7 "notice: reason not 3–5, or not 0 ≤ A ≤ B ≤ 40,000,000"
+unfoldable pub notice-number : ℕ → ℤ → ℤ → ℕ
+notice-number k a b = draw (not (between 3 5 k) || not ((leZ (pos 0) a && leZ a b) && leZ b (pos 40000000))) 7
+
+-- 7 "withdrawal: reason not 5"
+unfoldable pub withdrawal-number : ℕ → ℕ
+withdrawal-number k = draw (not (eqb k 5)) 7
+
+-- 8 "capability: kind not 1 or 2 or unlike a held 1 or 2; W1–W6 outside 0–99,999; W7, W8 outside 0–9,999; W9–W11 outside 0–1,000;
+-- a mark not 0 or 1; load with mark 0 or 4 set"
+unfoldable pub capability-number : List ℤ → List ℤ → ℕ
+capability-number held c =
+    draw (((not (has-kind c) || (has-kind held && not (eqZ (kind-of held) (kind-of c))))
+    || ((any-beyond (pos 0) (pos 99999) c 1 6 || any-beyond (pos 0) (pos 9999) c 7 2) || any-beyond (pos 0) (pos 1000) c 9 3))
+    || (any-beyond (pos 0) (pos 1) c 12 5 || (is-load (kind-of c) && (eqZ (mark-for c 0) (pos 1) || eqZ (mark-for c 4) (pos 1))))) 8
+
+-- 9 "mark for the service not 1"
+unfoldable pub registration-number : List ℤ → ℕ → ℕ
+registration-number c s = draw (not (eqZ (mark-for c s) (pos 1))) 9
+
+-- 18 "standing offer equal to the held one in cell words 1–23"
+unfoldable pub equal-words : List ℤ → List ℤ → Bool
+equal-words [] [] = true
+equal-words [] (y ∷ m) = false
+equal-words (x ∷ l) [] = false
+equal-words (x ∷ l) (y ∷ m) = eqZ x y && equal-words l m
+
+-- 17 and 18 of a standing offer: "A first one always passes the gate."
+unfoldable pub revision-number : ℕ → ℕ → Option (List ℤ) → List ℤ → ℕ
+revision-number now k none o = 0
+revision-number now k (some held) o = draw (standing-gate-refuses now k) 17 then draw (equal-words held o) 18
+
+-- 17 of a variation
+unfoldable pub grounds : View → ℕ → Grounds
+grounds vw f = record { kind = kind-of (vw .capability f); outage = vw .outage f; surplus = vw .notice 3; shortfall = vw .notice 4; status = vw .notice 5 }
+
+unfoldable pub gate-number : ℕ → Grounds → ℕ → ℕ → ℕ → InForce → List ℤ → ℕ
+gate-number now g s p reason old o = draw (gate-refuses now g s p reason (pairs-of old) (pairs o)) 17
+
+-- 10 "Also calls 8 and 9, for P."
+unfoldable pub period-number : ℕ → ℤ → ℕ
+period-number now p = draw (period-refused now p) 10
+
+-- 19 "nothing in force (call 8)"
+unfoldable pub force-number : InForce → ℕ
+force-number x = draw (eqb (counted x) 0) 19
+
+-- ---- each call, from 5 on
+
+unfoldable pub standing-number : View → ℕ → ℕ → ℤ → List ℤ → ℕ
+standing-number vw f s k o =
+    facility-number (vw .capability f)
+    then registration-number (vw .capability f) s
+    then standing-rules (vw .limits) (vw .capability f) s k o
+    then revision-number (vw .now) (toNat k) (vw .standing f s (toNat k)) o
+
+unfoldable pub variation-number : View → ℕ → ℕ → ℤ → ℕ → List ℤ → ℕ
+variation-number vw f s p reason o =
+    facility-number (vw .capability f)
+    then registration-number (vw .capability f) s
+    then variation-rules (vw .now) (vw .limits) (vw .capability f) s p reason o
+    then gate-number (vw .now) (grounds vw f) s (toNat p) reason (in-force vw f s (toNat p)) o
+
+unfoldable pub look-up-number : View → ℕ → ℕ → ℤ → ℕ
+look-up-number vw f s p =
+    facility-number (vw .capability f)
+    then period-number (vw .now) p
+    then force-number (in-force vw f s (toNat p))
+
+-- The number of a record that passes 2, 3 and 4; byte 5 selects among the nine calls.
+unfoldable pub judge : View → List ℕ → ℕ
+judge vw b =
+    cond (eqb (call-of b) 1) (clock-number (vw .now) (word-A b))
+    (cond (eqb (call-of b) 2) (capability-number (vw .capability (facility-of b)) (capability-in b))
+    (cond (eqb (call-of b) 3) (standing-number vw (facility-of b) (service-of b) (period-word b) (offer-in b))
+    (cond (eqb (call-of b) 4) (variation-number vw (facility-of b) (service-of b) (period-word b) (reason-of b) (offer-in b))
+    (cond (eqb (call-of b) 5) (facility-number (vw .capability (facility-of b)) then outage-number (vw .now) (vw .capability (facility-of b)) (word-A b) (word-B b))
+    (cond (eqb (call-of b) 6) (notice-number (reason-of b) (word-A b) (word-B b))
+    (cond (eqb (call-of b) 7) (withdrawal-number (reason-of b))
+    (cond (eqb (call-of b) 8) (look-up-number vw (facility-of b) (service-of b) (period-word b))
+    (period-number (vw .now) (period-word b)))))))))
+
+-- ---- what an accepted call answers
+
+unfoldable pub look-up-reply : View → ℕ → ℕ → ℕ → Answer
+look-up-reply vw f s p = found (in-force vw f s p)
+
+unfoldable pub total-reply : View → ℕ → ℕ → Answer
+total-reply vw s p = totalled (count-in-force vw s p (vw .facilities)) (sum-in-force vw s p (vw .facilities))
+
+unfoldable pub reply : View → List ℕ → Answer
+reply vw b =
+    cond (eqb (call-of b) 8) (look-up-reply vw (facility-of b) (service-of b) (toNat (period-word b)))
+    (cond (eqb (call-of b) 9) (total-reply vw (service-of b) (toNat (period-word b))) (plain 0))
+
+-- ---- a machine that follows these rules: a state, what it shows, and what an accepted call makes of it
+
+module _ (σ : Type 0) (view : σ → View) (accept : σ → List ℕ → σ) where
+  unfoldable pub number : σ → List ℕ → ℕ
+  number x b = record-number b (view x .facilities) (view x .services) then judge (view x) b
+
+  -- "if refused the state stays and the answer is its number and zeros"
+  unfoldable pub answer : σ → List ℕ → Answer
+  answer x b = cond (eqb (number x b) 0) (reply (view x) b) (plain (number x b))
+
+  unfoldable pub after : σ → List ℕ → σ
+  after x b = cond (eqb (number x b) 0) (accept x b) x

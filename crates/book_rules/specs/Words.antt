@@ -1,0 +1,111 @@
+-- Document 01, "The book's words": where each thing stands, and the opening (refusal 20).
+use mathlib.Core.Bool.{Bool, true, false, cond, not, _&&_, _||_}
+use mathlib.Core.List.{List, [], _∷_, _++_}
+use Prim.Native.Nat.{ℕ, zero, suc, _+_, _*_, _-_}
+use lib.Dec.{leb, eqb}
+use lib.IntN.{ℤ, pos, negsuc}
+use lib.Signed.{leZ}
+use lib.ListN.{length, take, drop, replicate}
+use Rattle.offer_rules.specs.Numbers.{eqZ, toNat, word, beyond, draw}
+use Rattle.book_rules.specs.Record.{sizes-ok}
+
+-- n words from a on.
+unfoldable pub part : ℕ → ℕ → List ℤ → List ℤ
+part a n w = take n (drop a w)
+
+-- The words w, with c in the place of as many from a on.
+unfoldable pub put : List ℤ → ℕ → List ℤ → List ℤ
+put w a c = take a w ++ (c ++ drop (a + length c) w)
+
+abbrev pub zeros : ℕ → List ℤ
+zeros n = replicate n (pos 0)
+
+-- "It needs N = 64 + 32·F + 16,128·F·S words."
+unfoldable pub book-size : ℕ → ℕ → ℕ
+book-size F S = 64 + 32 * F + 16128 * (F * S)
+
+-- "Head: 0 the mark 0x534F42; 1 version 1; 2 F; 3 S; 4 clock; 5–10 first and last of notices 3, 4, 5;
+-- 11, 12 lowest and highest energy price; 13–16 highest price of services 1 to 4; the rest to 63 zero."
+abbrev pub book-mark : ℤ
+book-mark = pos 0x534F42
+
+abbrev pub book-version : ℤ
+book-version = pos 1
+
+abbrev pub clock-place : ℕ
+clock-place = 4
+
+abbrev pub notice-place : ℕ → ℕ
+notice-place k = 2 * k - 1
+
+abbrev pub limits-place : ℕ
+limits-place = 11
+
+-- "From 64, 32 words a facility: 0 kind (0: none); 1–16 W1 to W16; 17, 18 outage window; the rest zero."
+abbrev pub facility-place : ℕ → ℕ
+facility-place f = 64 + 32 * f
+
+abbrev pub outage-place : ℕ → ℕ
+outage-place f = facility-place f + 17
+
+-- "Then cells of 24 words, numbered ((f·S + s)·2 + h)·336 + slot, h 0 standing, 1 variation"
+unfoldable pub cell-place : ℕ → ℕ → ℕ → ℕ → ℕ → ℕ → ℕ
+cell-place F S f s h slot = 64 + 32 * F + 24 * (((f * S + s) * 2 + h) * 336 + slot)
+
+abbrev pub standing-half : ℕ
+standing-half = 0
+
+abbrev pub variation-half : ℕ
+variation-half = 1
+
+-- A cell: "0 stamp (0 empty, 1 standing, P + 1 variation), 1 proportion, 2 ramp up, 3 ramp down, 4–23 pairs".
+unfoldable pub cell : ℕ → List ℤ → List ℤ
+cell stamp o = pos stamp ∷ o
+
+abbrev pub standing-stamp : ℕ
+standing-stamp = 1
+
+abbrev pub variation-stamp : ℕ → ℕ
+variation-stamp p = p + 1
+
+-- 1 "fewer than 64 words, mark or version wrong, F not 1 to 64, S not 1 or 5, fewer than N words, or clock outside 0 to 1,000,000,000"
+unfoldable pub is-book : List ℤ → Bool
+is-book w =
+    ((leb 64 (length w) && (eqZ (word w 0) book-mark && eqZ (word w 1) book-version)) && sizes-ok (word w 2) (word w 3))
+    && (leb (book-size (toNat (word w 2)) (toNat (word w 3))) (length w) && not (beyond (pos 0) (pos 1000000000) (word w clock-place)))
+
+-- ---- the opening
+
+-- Any of n words from word i on outside lo to hi.
+unfoldable pub any-beyond : ℤ → ℤ → List ℤ → ℕ → ℕ → Bool
+any-beyond lo hi l i zero = false
+any-beyond lo hi l i (suc n) = beyond lo hi (word l i) || any-beyond lo hi l (suc i) n
+
+-- 20 "a limit beyond ±10,000,000, or not lowest ≤ 0 ≤ highest; 0 ≤ highest for services 1–4"; the six limits are head words 11 to 16
+unfoldable pub limits-ok : List ℤ → Bool
+limits-ok l = not (any-beyond (negsuc 9999999) (pos 10000000) l 0 6) && (leZ (word l 0) (pos 0) && not (any-beyond (pos 0) (pos 10000000) l 1 5))
+
+-- 20 "F, S wrong, words too few"
+unfoldable pub opening-number : List ℤ → ℤ → ℤ → List ℤ → ℕ
+opening-number w F S limits = draw (not ((sizes-ok F S && leb (book-size (toNat F) (toNat S)) (length w)) && limits-ok limits)) 20
+
+-- "all windows 1 to 0 (empty)"
+unfoldable pub empty-facility : List ℤ
+empty-facility = zeros 17 ++ (pos 1 ∷ (pos 0 ∷ zeros 13))
+
+unfoldable pub empty-facilities : ℕ → List ℤ
+empty-facilities zero = []
+empty-facilities (suc n) = empty-facility ++ empty-facilities n
+
+unfoldable pub opening-head : ℕ → ℕ → List ℤ → List ℤ
+opening-head F S limits =
+    (book-mark ∷ book-version ∷ pos F ∷ pos S ∷ pos 0 ∷ pos 1 ∷ pos 0 ∷ pos 1 ∷ pos 0 ∷ pos 1 ∷ pos 0 ∷ []) ++ (limits ++ zeros 47)
+
+-- "Opening writes words 0 to N − 1: mark, version, F and S as above, clock 0, all windows 1 to 0 (empty), given limits, else zero."
+unfoldable pub opened : ℕ → ℕ → List ℤ → List ℤ → List ℤ
+opened F S limits beyond = opening-head F S limits ++ (empty-facilities F ++ (zeros (16128 * (F * S)) ++ beyond))
+
+-- The words afterwards: those from N on stay, and a refused opening writes none.
+unfoldable pub opening-words : List ℤ → ℤ → ℤ → List ℤ → List ℤ
+opening-words w F S limits =
+    cond (eqb (opening-number w F S limits) 0) (opened (toNat F) (toNat S) limits (drop (book-size (toNat F) (toNat S)) w)) w

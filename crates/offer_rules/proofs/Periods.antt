@@ -1,0 +1,44 @@
+-- Periods that may be filed for, and the periods of one slot.
+use mathlib.Core.Path.{_≡_, refl, sym, _∙_, ap}
+use mathlib.Core.Logic.{_≢_}
+use mathlib.Core.Bool.{Bool, true, false, _||_, true≢false}
+use Prim.Native.Nat.{ℕ, zero, suc, _+_, _*_, _-_, _/_, _%_, _≤_, _<_}
+use native.Mathlib.Omega.{arith}
+use lib.Dec.{leb, ltb}
+use lib.IntN.{ℤ, pos, negsuc}
+use borrow.Author.Tests.{leb-false, ltb-false}
+use Rattle.offer_rules.specs.Numbers.{toNat}
+use Rattle.offer_rules.specs.Time.{start-of, slots, slot-of, horizon-end, slot-refused, has-begun, past-horizon, period-refused, next-period}
+use Rattle.offer_rules.proofs.Drawn.{or-left, or-right}
+
+-- A slot that is not refused is one of the 336.
+pub slot-is : (k : ℤ) → slot-refused k ≡ false → (k ≡ pos (toNat k)) × (toNat k < slots)
+slot-is (pos k) e = (refl, let h = ltb-false 335 k (or-right (ltb k 0) (ltb 335 k) e) in omega arith)
+slot-is (negsuc k) e = absurd (true≢false e)
+
+-- A period that is not refused starts after now, and before the horizon.
+pub period-is : (now : ℕ) (p : ℤ) → period-refused now p ≡ false → (p ≡ pos (toNat p)) × (now < start-of (toNat p)) × (toNat p < horizon-end now)
+unfolding period-refused has-begun past-horizon
+period-is now (pos p) e = (
+  refl,
+  leb-false (start-of p) now (or-left (leb (start-of p) now) (leb (horizon-end now) p) e),
+  leb-false (horizon-end now) p (or-right (leb (start-of p) now) (leb (horizon-end now) p) e),
+)
+period-is now (negsuc p) e = absurd (true≢false e)
+
+-- Another period of the slot of one that may be filed for has begun or lies past the horizon: no two share a slot.
+pub one-of-a-slot : (now p q : ℕ) → now < start-of p → p < horizon-end now → now < start-of q → q ≢ p → slot-of q ≡ slot-of p → horizon-end now ≤ q
+one-of-a-slot now p q a b c n e = omega arith
+
+-- The next period of a slot is of that slot, has not begun, and is the least such.
+pub next-of-slot : (now k : ℕ) → k < slots → slot-of (next-period now k) ≡ k
+unfolding next-period
+next-of-slot now k h = omega arith
+
+pub next-not-begun : (now k : ℕ) → now < start-of (next-period now k)
+unfolding next-period
+next-not-begun now k = omega arith
+
+pub next-is-least : (now k p : ℕ) → k < slots → slot-of p ≡ k → now < start-of p → next-period now k ≤ p
+unfolding next-period
+next-is-least now k p h e a = omega arith

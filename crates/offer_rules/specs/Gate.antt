@@ -1,0 +1,73 @@
+-- Document 01, "Gate": gate closure, refusal 17.
+use mathlib.Core.Bool.{Bool, true, false, cond, not, _&&_, _||_}
+use mathlib.Core.List.{List, [], _∷_}
+use Prim.Native.Nat.{ℕ, zero, suc, _+_, _-_, min}
+use lib.Dec.{leb, ltb, eqb}
+use lib.IntN.{ℤ, pos}
+use lib.Signed.{leZ}
+use Rattle.offer_rules.specs.Numbers.{eqZ, toNat}
+use Rattle.offer_rules.specs.Time.{start-of, next-period}
+use Rattle.offer_rules.specs.Offer.{Pair, is-generation, is-load, is-energy}
+
+-- "In the gate a quantity below 0, which only a damaged book holds, counts as 0."
+abbrev pub tenths-of : Pair → ℕ
+tenths-of x = toNat (x .quantity)
+
+unfoldable pub total-tenths : List Pair → ℕ
+total-tenths [] = 0
+total-tenths (x ∷ l) = tenths-of x + total-tenths l
+
+-- The price of "the n-th tenth of a MW, counted up through the pairs", n from 1.
+unfoldable pub price-of-tenth : List Pair → ℕ → ℤ
+price-of-tenth [] n = pos 0
+price-of-tenth (x ∷ l) n = cond (leb n (tenths-of x)) (x .price) (price-of-tenth l (n - tenths-of x))
+
+-- "for every n from 1 to the smaller total, the n-th tenth .. has the same price in old and new"
+unfoldable pub same-prices-to : ℕ → List Pair → List Pair → Bool
+same-prices-to zero old new = true
+same-prices-to (suc n) old new = same-prices-to n old new && eqZ (price-of-tenth old (suc n)) (price-of-tenth new (suc n))
+
+unfoldable pub same-prices : List Pair → List Pair → Bool
+same-prices old new = same-prices-to (min (total-tenths old) (total-tenths new)) old new
+
+-- The periods of an outage or a notice, first to last.
+pub record Window : Type 0 where
+  pub first : ℤ
+  pub last : ℤ
+
+unfoldable pub covers : Window → ℕ → Bool
+covers v p = leZ (v .first) (pos p) && leZ (pos p) (v .last)
+
+-- What a reason is held against: the facility's kind and outage window, and the notices 3 energy surplus, 4 shortfall, 5 system status.
+pub record Grounds : Type 0 where
+  pub kind : ℤ
+  pub outage : Window
+  pub surplus : Window
+  pub shortfall : Window
+  pub status : Window
+
+-- "Inside that it needs a reason": 1 to 6, for service s and period p, with the totals of old and new.
+unfoldable pub reason-holds : Grounds → ℕ → ℕ → ℕ → ℕ → ℕ → Bool
+reason-holds g s p old new reason =
+    cond (eqb reason 1) (is-generation (g .kind))
+    (cond (eqb reason 2) (is-generation (g .kind) && covers (g .outage) p)
+    (cond (eqb reason 3) ((is-energy s && covers (g .surplus) p) && ltb new old)
+    (cond (eqb reason 4) (covers (g .shortfall) p && ltb old new)
+    (cond (eqb reason 5) (covers (g .status) p && ltb old new)
+    (cond (eqb reason 6) (is-load (g .kind) && covers (g .outage) p) false)))))
+
+-- "A variation is open when 30·P − now is 65 or more."
+abbrev pub gate-minutes : ℕ
+gate-minutes = 65
+
+abbrev pub is-open : ℕ → ℕ → Bool
+is-open now p = leb (now + gate-minutes) (start-of p)
+
+-- 17, of a variation: old is the offer in force before the call, new the one that will stand for p after it.
+unfoldable pub gate-refuses : ℕ → Grounds → ℕ → ℕ → ℕ → List Pair → List Pair → Bool
+gate-refuses now g s p reason old new =
+    not (is-open now p || (reason-holds g s p (total-tenths old) (total-tenths new) reason && same-prices old new))
+
+-- 17, of a standing offer over a held one: "refused inside 65 minutes of the slot's next period not yet begun, reasons or not".
+unfoldable pub standing-gate-refuses : ℕ → ℕ → Bool
+standing-gate-refuses now k = not (is-open now (next-period now k))

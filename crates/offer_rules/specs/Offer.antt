@@ -1,0 +1,154 @@
+-- An offer, and refusals 11 to 16 (document 01, "Who draws which number", the coordinator's); 10 is in Time.
+use mathlib.Core.Bool.{Bool, true, false, cond, not, _&&_, _||_}
+use mathlib.Core.List.{List, [], _∷_}
+use Prim.Native.Nat.{ℕ, suc, _+_}
+use lib.Dec.{leb, ltb, eqb}
+use lib.IntN.{ℤ, pos, _+ℤ_}
+use lib.Signed.{ltZ}
+use lib.ListN.{drop}
+use Rattle.offer_rules.specs.Numbers.{eqZ, word, beyond, draw, _then_}
+use Rattle.offer_rules.specs.Time.{slot-refused, period-refused}
+
+-- A pair of an offer: its price in cents per MWh, its quantity in tenths of a MW.
+pub record Pair : Type 0 where
+  pub price : ℤ
+  pub quantity : ℤ
+
+unfoldable pub pairs-in : List ℤ → List Pair
+pairs-in [] = []
+pairs-in (p ∷ []) = []
+pairs-in (p ∷ (q ∷ l)) = record { price = p; quantity = q } ∷ pairs-in l
+
+-- An offer is 23 words: proportion, ramp up, ramp down, ten pairs. What a service doesn't use is zero.
+abbrev pub proportion : List ℤ → ℤ
+proportion o = word o 0
+
+abbrev pub ramp-up : List ℤ → ℤ
+ramp-up o = word o 1
+
+abbrev pub ramp-down : List ℤ → ℤ
+ramp-down o = word o 2
+
+unfoldable pub pairs : List ℤ → List Pair
+pairs o = pairs-in (drop 3 o)
+
+-- "A pair with quantity 0 is blank, and blanks may stand anywhere."
+unfoldable pub is-blank : Pair → Bool
+is-blank x = eqZ (x .quantity) (pos 0)
+
+-- The quantities added.
+unfoldable pub sum-of : List Pair → ℤ
+sum-of [] = pos 0
+sum-of (x ∷ l) = x .quantity +ℤ sum-of l
+
+-- ---- standing capability data: W0 to W16 of a facility; services 0 energy, 1 to 3 reserve by class, 4 regulation
+
+abbrev pub generation : ℤ
+generation = pos 1
+
+abbrev pub load : ℤ
+load = pos 2
+
+abbrev pub kind-of : List ℤ → ℤ
+kind-of c = word c 0
+
+abbrev pub is-generation : ℤ → Bool
+is-generation kind = eqZ kind generation
+
+abbrev pub is-load : ℤ → Bool
+is-load kind = eqZ kind load
+
+abbrev pub is-energy : ℕ → Bool
+is-energy s = eqb s 0
+
+abbrev pub is-reserve : ℕ → Bool
+is-reserve s = leb 1 s && leb s 3
+
+abbrev pub max-generation : List ℤ → ℤ
+max-generation c = word c 1
+
+abbrev pub max-combined : List ℤ → ℤ
+max-combined c = word c 2
+
+-- W3 to W5 reserve maxima by class, W6 regulation maximum.
+abbrev pub max-of-service : List ℤ → ℕ → ℤ
+max-of-service c s = word c (2 + s)
+
+abbrev pub max-ramp-up : List ℤ → ℤ
+max-ramp-up c = word c 7
+
+abbrev pub max-ramp-down : List ℤ → ℤ
+max-ramp-down c = word c 8
+
+-- W9 to W11 by class.
+abbrev pub max-proportion : List ℤ → ℕ → ℤ
+max-proportion c s = word c (8 + s)
+
+-- W12 to W16 are 1 if registered for service 0 to 4.
+abbrev pub mark-for : List ℤ → ℕ → ℤ
+mark-for c s = word c (12 + s)
+
+-- ---- price limits: lowest and highest energy price, then the highest of services 1 to 4, which start from 0
+
+abbrev pub lowest-price : List ℤ → ℕ → ℤ
+lowest-price limits s = cond (is-energy s) (word limits 0) (pos 0)
+
+abbrev pub highest-price : List ℤ → ℕ → ℤ
+highest-price limits s = word limits (1 + s)
+
+-- ---- the refusals
+
+unfoldable pub any-pair : (Pair → Bool) → List Pair → Bool
+any-pair test [] = false
+any-pair test (x ∷ l) = test x || any-pair test l
+
+-- 11 "quantity outside 0–99,999, price outside its limits (services 1–4 from 0)"
+unfoldable pub pair-out-of-range : List ℤ → ℕ → Pair → Bool
+pair-out-of-range limits s x = beyond (pos 0) (pos 99999) (x .quantity) || beyond (lowest-price limits s) (highest-price limits s) (x .price)
+
+-- 11 "reason above 6"
+unfoldable pub out-of-range : List ℤ → ℕ → ℕ → List ℤ → Bool
+out-of-range limits s reason o = ltb 6 reason || any-pair (pair-out-of-range limits s) (pairs o)
+
+-- 12 "blank pair with a price"
+unfoldable pub is-priced-blank : Pair → Bool
+is-priced-blank x = is-blank x && not (eqZ (x .price) (pos 0))
+
+-- 13 "prices of non-blank pairs not strictly rising"
+unfoldable pub non-blank-prices : List Pair → List ℤ
+non-blank-prices [] = []
+non-blank-prices (x ∷ l) = cond (is-blank x) (non-blank-prices l) (x .price ∷ non-blank-prices l)
+
+unfoldable pub rises : List ℤ → Bool
+rises [] = true
+rises (x ∷ []) = true
+rises (x ∷ (y ∷ l)) = ltZ x y && rises (y ∷ l)
+
+-- 14 "energy ramp outside 0 to its maximum"
+unfoldable pub ramp-refused : List ℤ → ℕ → List ℤ → Bool
+ramp-refused c s o = is-energy s && (beyond (pos 0) (max-ramp-up c) (ramp-up o) || beyond (pos 0) (max-ramp-down c) (ramp-down o))
+
+-- 15 "generation reserve: proportion 0 or above its maximum; load isn't tested"
+unfoldable pub proportion-refused : List ℤ → ℕ → List ℤ → Bool
+proportion-refused c s o = (is-generation (kind-of c) && is-reserve s) && (eqZ (proportion o) (pos 0) || ltZ (max-proportion c s) (proportion o))
+
+-- 16 "total above generation or combined maximum (energy), or above the service's own"
+unfoldable pub above-capacity : List ℤ → ℕ → ℤ → Bool
+above-capacity c s total = cond (is-energy s) (ltZ (max-generation c) total || ltZ (max-combined c) total) (ltZ (max-of-service c s) total)
+
+-- 11 to 16, of an offer o for service s by a facility of capability c
+unfoldable pub offer-number : List ℤ → List ℤ → ℕ → ℕ → List ℤ → ℕ
+offer-number limits c s reason o =
+    draw (out-of-range limits s reason o) 11
+    then draw (any-pair is-priced-blank (pairs o)) 12
+    then draw (not (rises (non-blank-prices (pairs o)))) 13
+    then draw (ramp-refused c s o) 14
+    then draw (proportion-refused c s o) 15
+    then draw (above-capacity c s (sum-of (pairs o))) 16
+
+-- 10 to 16, of a standing offer, which carries no reason, and of a variation
+unfoldable pub standing-rules : List ℤ → List ℤ → ℕ → ℤ → List ℤ → ℕ
+standing-rules limits c s slot o = draw (slot-refused slot) 10 then offer-number limits c s 0 o
+
+unfoldable pub variation-rules : ℕ → List ℤ → List ℤ → ℕ → ℤ → ℕ → List ℤ → ℕ
+variation-rules now limits c s p reason o = draw (period-refused now p) 10 then offer-number limits c s reason o

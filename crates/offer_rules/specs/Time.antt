@@ -1,0 +1,51 @@
+-- Document 01, "Units and time".
+-- A price is whole cents per MWh, a quantity whole tenths of a MW, a ramp rate tenths of a MW per minute, a proportion thousandths.
+-- Time is whole minutes from the start of day 0, a Monday; `now` is the clock.
+use mathlib.Core.Bool.{Bool, true, false, _||_}
+use Prim.Native.Nat.{ℕ, _+_, _*_, _-_, _/_, _%_}
+use lib.Dec.{leb}
+use lib.IntN.{ℤ, pos, negsuc}
+use Rattle.offer_rules.specs.Numbers.{beyond}
+
+-- "Period P starts at minute 30·P."
+abbrev pub start-of : ℕ → ℕ
+start-of p = 30 * p
+
+-- "Day d is minutes div 1,440."
+abbrev pub day-of : ℕ → ℕ
+day-of now = now / 1440
+
+-- "The slot of P is P mod 336."
+abbrev pub slots : ℕ
+slots = 336
+
+abbrev pub slot-of : ℕ → ℕ
+slot-of p = p % slots
+
+-- The market outlook horizon: the first period that is too far ahead, 48·(d + 7).
+abbrev pub horizon-days : ℕ
+horizon-days = 7
+
+abbrev pub horizon-end : ℕ → ℕ
+horizon-end now = 48 * (day-of now + horizon-days)
+
+-- Refusal 10: "slot outside 0–335".
+abbrev pub slot-refused : ℤ → Bool
+slot-refused k = beyond (pos 0) (pos 335) k
+
+-- Refusal 10: "P begun (30·P ≤ now)". A period before period 0 has begun.
+unfoldable pub has-begun : ℕ → ℤ → Bool
+has-begun now (pos p) = leb (start-of p) now
+has-begun now (negsuc p) = true
+
+-- Refusal 10: "or P ≥ 48·(d + 7), d the day of now".
+unfoldable pub past-horizon : ℕ → ℤ → Bool
+past-horizon now (pos p) = leb (horizon-end now) p
+past-horizon now (negsuc p) = false
+
+unfoldable pub period-refused : ℕ → ℤ → Bool
+period-refused now p = has-begun now p || past-horizon now p
+
+-- "the slot's next period not yet begun": the least, by the laws of proofs/Periods.
+unfoldable pub next-period : ℕ → ℕ → ℕ
+next-period now k = now / 30 + 1 + (k + slots - slot-of (now / 30 + 1)) % slots
