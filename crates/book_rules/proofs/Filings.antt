@@ -187,7 +187,7 @@ module _ (b : List ℕ) where
       writes = λ w. rw (e, is);
       sized = ap suc (length-offer b);
       shows = λ l.
-        rw (e, is, eq-eqb (facility-of b) (facility-of b) refl, eq-eqb (service-of b) (service-of b) refl, eq-eqb p p refl, eq-eqb (variation-stamp p) (variation-stamp p) refl);
+          rw (e, is, eq-eqb (facility-of b) (facility-of b) refl, eq-eqb (service-of b) (service-of b) refl, eq-eqb p p refl, eq-eqb (variation-stamp p) (variation-stamp p) refl);
       keeps = variation-keeps e;
     }
 

@@ -7,3 +7,4 @@ pub mod Filings
 pub mod Same
 pub mod Opening
 pub mod EveryCall
+pub mod Striking

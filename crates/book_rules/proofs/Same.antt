@@ -137,11 +137,11 @@ module _ (F S : ℕ) (limits : List ℤ) where
       outage-same = λ f _ hf. ap window-in (r .at-same (outageK f) hf tt);
       notice-same = λ k a z. ap window-in (r .at-same (noticeK k) (a, z) tt);
       standing-same = λ f s k _ hf hs hk.
-        ap₂ (λ (m n : ℕ). held standing-stamp (part (cell-place m n f s standing-half k) 24 w)) facilities-is services-is
-        ∙ offer-there-and-back _ _ (r .at-same (standingK f s k) (hf, hs, hk) tt);
+          ap₂ (λ (m n : ℕ). held standing-stamp (part (cell-place m n f s standing-half k) 24 w)) facilities-is services-is
+          ∙ offer-there-and-back _ _ (r .at-same (standingK f s k) (hf, hs, hk) tt);
       variation-same = λ f s p _ hf hs hp.
-        ap₂ (λ (m n : ℕ). held (variation-stamp p) (part (cell-place m n f s variation-half (slot-of p)) 24 w)) facilities-is services-is
-        ∙ offer-there-and-back _ _ (r .at-same (variationK f s p) (hf, hs) (rw (ap toNat clock-is) at hp));
+          ap₂ (λ (m n : ℕ). held (variation-stamp p) (part (cell-place m n f s variation-half (slot-of p)) 24 w)) facilities-is services-is
+          ∙ offer-there-and-back _ _ (r .at-same (variationK f s p) (hf, hs) (rw (ap toNat clock-is) at hp));
     }
 
   -- The clock after a call is no earlier, and in time.
