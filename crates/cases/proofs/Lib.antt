@@ -1,0 +1,3 @@
+mod Computes
+pub mod Cases
+pub mod WorkedRun

@@ -1,0 +1,60 @@
+-- Records of 112 bytes, written from their fields.
+use mathlib.Core.List.{List, [], _∷_, _++_}
+use Prim.Native.Nat.{ℕ, zero, suc, _+_, _*_, _-_, _/_, _%_}
+use lib.IntN.{ℤ, pos, negsuc}
+use lib.ListN.{length, replicate}
+use Rattle.offer_rules.specs.Offer.{Pair}
+
+-- A signed word's four bytes, most significant first.
+unfoldable pub bits : ℤ → ℕ
+bits (pos n) = n
+bits (negsuc n) = 4294967295 - n
+
+unfoldable pub four-bytes : ℕ → List ℕ
+four-bytes n = n / 16777216 % 256 ∷ (n / 65536 % 256 ∷ (n / 256 % 256 ∷ (n % 256 ∷ [])))
+
+abbrev pub word-bytes : ℤ → List ℕ
+word-bytes z = four-bytes (bits z)
+
+unfoldable pub all-bytes : List ℤ → List ℕ
+all-bytes [] = []
+all-bytes (x ∷ l) = word-bytes x ++ all-bytes l
+
+-- Mark, version, call, facility, service; period word; reason; proportion and ramps all zero; A and B; W0 to W19, zero where not given.
+unfoldable pub record-bytes : ℕ → ℕ → ℕ → ℤ → ℕ → ℤ → ℤ → List ℤ → List ℕ
+record-bytes call facility service period reason a b ws =
+    (83 ∷ 79 ∷ 66 ∷ 0 ∷ 1 ∷ call ∷ facility ∷ service ∷ [])
+    ++ (word-bytes period ++ ((reason ∷ 0 ∷ 0 ∷ 0 ∷ []) ++ (replicate 8 0 ++ (word-bytes a ++ (word-bytes b ++ (all-bytes ws ++ replicate (80 - 4 * length ws) 0))))))
+
+unfoldable pub pair-words : List Pair → List ℤ
+pair-words [] = []
+pair-words (x ∷ l) = x .price ∷ (x .quantity ∷ pair-words l)
+
+-- Tenths of a MW at cents per MWh.
+infix 90 _at_
+abbrev pub _at_ : ℕ → ℕ → Pair
+q at p = record { price = pos p; quantity = pos q }
+
+abbrev pub clock : ℕ → List ℕ
+clock minute = record-bytes 1 0 0 (pos 0) 0 (pos minute) (pos 0) []
+
+-- A generation facility registered for energy, with these generation and combined maxima.
+abbrev pub capability : ℕ → ℕ → List ℕ
+capability generation combined =
+    record-bytes 2 0 0 (pos 0) 0 (pos 0) (pos 0)
+    (pos 1 ∷ (pos generation ∷ (pos combined ∷ (replicate 9 (pos 0) ++ (pos 1 ∷ replicate 4 (pos 0))))))
+
+abbrev pub standing : ℕ → List Pair → List ℕ
+standing slot offer = record-bytes 3 0 0 (pos slot) 0 (pos 0) (pos 0) (pair-words offer)
+
+abbrev pub variation : ℕ → ℕ → List Pair → List ℕ
+variation period reason offer = record-bytes 4 0 0 (pos period) reason (pos 0) (pos 0) (pair-words offer)
+
+abbrev pub notice : ℕ → ℕ → ℕ → List ℕ
+notice kind first last = record-bytes 6 0 0 (pos 0) kind (pos first) (pos last) []
+
+abbrev pub look-up : ℕ → List ℕ
+look-up period = record-bytes 8 0 0 (pos period) 0 (pos 0) (pos 0) []
+
+abbrev pub total : ℕ → List ℕ
+total period = record-bytes 9 0 0 (pos period) 0 (pos 0) (pos 0) []
