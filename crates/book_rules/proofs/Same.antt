@@ -17,7 +17,7 @@ use Rattle.offer_rules.specs.Time.{slots, slot-of, start-of, horizon-end}
 use Rattle.offer_rules.specs.Offer.{standing-rules, variation-rules}
 use Rattle.offer_rules.specs.Gate.{Window}
 use Rattle.offer_rules.proofs.Drawn.{and-left, and-right, or-left, or-right, then-zero, draw-zero}
-use Rattle.offer_rules.proofs.Periods.{one-of-a-slot}
+use Rattle.offer_rules.proofs.Periods.{within, one-of-a-slot}
 use Rattle.book_rules.specs.Record.{call-of, facility-of, service-of, period-word, reason-of, word-A, word-B, capability-in, offer-in, between, uses}
 use Rattle.book_rules.specs.Words.{part, put, book-size, book-mark, book-version, clock-place, notice-place, limits-place, facility-place, outage-place, cell-place, standing-half, variation-half, cell, standing-stamp, variation-stamp}
 use Rattle.book_rules.specs.Force.{View}
@@ -58,7 +58,7 @@ Stamped (noticeK k) v = Unit {0}
 Stamped (capabilityK f) v = Unit {0}
 Stamped (outageK f) v = Unit {0}
 Stamped (standingK f s k) v = Unit {0}
-Stamped (variationK f s p) v = word v 0 ≡ pos (p + 1)
+Stamped (variationK f s p) v = word v 0 ≡ pos (variation-stamp p)
 
 alive-before : (m n : ℕ) (κ : Key) → m ≤ n → Alive n κ → Alive m κ
 alive-before m n clockK h a = tt
@@ -72,6 +72,10 @@ alive-before m n (variationK f s p) h a = omega arith
 pub other-stamp : (n m : ℕ) (c : List ℤ) → word c 0 ≡ pos m → m ≢ n → held n c ≡ none
 unfolding held
 other-stamp n m c e h = rw (e, ne-eqb m n h)
+
+-- Two periods have two stamps.
+stamps-differ : (q p : ℕ) → q ≢ p → variation-stamp p ≢ variation-stamp q
+stamps-differ q p n e = n (omega arith)
 
 -- Back from words to what they show.
 offer-back : List ℤ → Option (List ℤ)
@@ -182,7 +186,7 @@ module _ (F S : ℕ) (limits : List ℤ) where
         go f s q p eκ e₀ n m =
             let a′ : list-now l < start-of q = subst (Alive (list-now l)) eκ a in
             let near′ : (list-now l < start-of p) × (p < horizon-end (list-now l)) = subst (Near (list-now l)) e₀ near in
-            let stamp : word v 0 ≡ pos (p + 1) = subst (λ (k : Key). Stamped k v) e₀ stamped in
+            let stamp : word v 0 ≡ pos (variation-stamp p) = subst (λ (k : Key). Stamped k v) e₀ stamped in
             let there : place F S (variationK f s q) ≡ place F S κ₀ = unfold place in ap (λ (k : ℕ). cell-place F S f s variation-half k) m ∙ ap (place F S) (sym e₀) in
             let wide : width (variationK f s q) ≡ width κ₀ = unfold width in ap width (sym e₀) in
             let raw : part (place F S (variationK f s q)) (width (variationK f s q)) written ≡ v =
@@ -193,8 +197,8 @@ module _ (F S : ℕ) (limits : List ℤ) where
             ∙ sym (r .none-far f s q (one-of-a-slot (list-now l) p q (near′ .0) (near′ .1) a′ n m))
             ∙ ap (listed l) (sym eκ)
           where
-            gone : (f s q p : ℕ) → word v 0 ≡ pos (p + 1) → q ≢ p → shown (variationK f s q) v ≡ []
-            gone f s q p stamp n = unfold shown offer-words in ap offer-words (other-stamp (q + 1) (p + 1) v stamp (λ e. n (omega arith)))
+            gone : (f s q p : ℕ) → word v 0 ≡ pos (variation-stamp p) → q ≢ p → shown (variationK f s q) v ≡ []
+            gone f s q p stamp n = unfold shown offer-words in ap offer-words (other-stamp (variation-stamp q) (variation-stamp p) v stamp (stamps-differ q p n))
 
     at-after : (κ : Key) → Valid F S κ → Alive (list-now (b ∷ l)) κ → shown κ (part (place F S κ) (width κ) written) ≡ listed (b ∷ l) κ
     at-after κ vκ a = go (Key-discrete ℕ-discrete κ κ₀) (Key-discrete ℕ-discrete (spot κ) (spot κ₀))
@@ -249,9 +253,8 @@ module _ (F S : ℕ) (limits : List ℤ) where
   pub clock-rises : (now : ℕ) (a : ℤ) → clock-number now a ≡ 0 → (now ≤ toNat a) × (beyond (pos 0) (pos 1000000000) a ≡ false)
   unfolding clock-number
   clock-rises now (pos a) e =
-      let z = draw-zero (ltb a now || ltb 1000000000 a) 6 (omega arith) e in
-      let hi = ltb-false 1000000000 a (or-right (ltb a now) (ltb 1000000000 a) z) in
-      (ltb-false a now (or-left (ltb a now) (ltb 1000000000 a) z), rw (le-ltb a 0 (omega arith), le-ltb 1000000000 a hi))
+      let t = within _ _ a (draw-zero _ 6 (omega arith) e) in
+      (omega (arith, t .0), rw (le-ltb a 0 (omega arith), le-ltb 1000000000 a (omega (arith, t .1))))
   clock-rises now (negsuc a) e = absurd (true≢false (draw-zero true 6 (omega arith) e))
 
   is-clockK : Key → Bool

@@ -7,24 +7,39 @@ use native.Mathlib.Omega.{arith}
 use lib.Dec.{leb, ltb}
 use lib.IntN.{ℤ, pos, negsuc}
 use borrow.Author.Tests.{leb-false, ltb-false}
-use Rattle.offer_rules.specs.Numbers.{toNat}
+use Rattle.offer_rules.specs.Numbers.{toNat, beyond}
 use Rattle.offer_rules.specs.Time.{start-of, slots, slot-of, horizon-end, slot-refused, has-begun, past-horizon, period-refused, next-period}
 use Rattle.offer_rules.proofs.Drawn.{or-left, or-right}
 
+-- A number that is not beyond two others lies between them.
+pub within : (lo hi a : ℕ) → beyond (pos lo) (pos hi) (pos a) ≡ false → (lo ≤ a) × (a ≤ hi)
+within lo hi a e = (ltb-false a lo (or-left (ltb a lo) (ltb hi a) e), ltb-false hi a (or-right (ltb a lo) (ltb hi a) e))
+
 -- A slot that is not refused is one of the 336.
 pub slot-is : (k : ℤ) → slot-refused k ≡ false → (k ≡ pos (toNat k)) × (toNat k < slots)
-slot-is (pos k) e = (refl, let h = ltb-false 335 k (or-right (ltb k 0) (ltb 335 k) e) in omega arith)
+slot-is (pos k) e = (refl, omega (arith, within _ _ k e .1))
 slot-is (negsuc k) e = absurd (true≢false e)
 
--- A period that is not refused starts after now, and before the horizon.
+not-begun : (now p : ℕ) → has-begun now (pos p) ≡ false → now < start-of p
+unfolding has-begun
+not-begun now p e = omega (arith, leb-false)
+
+not-past : (now p : ℕ) → past-horizon now (pos p) ≡ false → p < horizon-end now
+unfolding past-horizon
+not-past now p e = omega (arith, leb-false)
+
+-- A period that is not refused starts after now, and lies before the horizon.
 pub period-is : (now : ℕ) (p : ℤ) → period-refused now p ≡ false → (p ≡ pos (toNat p)) × (now < start-of (toNat p)) × (toNat p < horizon-end now)
-unfolding period-refused has-begun past-horizon
+unfolding period-refused
 period-is now (pos p) e = (
   refl,
-  leb-false (start-of p) now (or-left (leb (start-of p) now) (leb (horizon-end now) p) e),
-  leb-false (horizon-end now) p (or-right (leb (start-of p) now) (leb (horizon-end now) p) e),
+  not-begun now p (or-left (has-begun now (pos p)) (past-horizon now (pos p)) e),
+  not-past now p (or-right (has-begun now (pos p)) (past-horizon now (pos p)) e),
 )
-period-is now (negsuc p) e = absurd (true≢false e)
+period-is now (negsuc p) e = absurd (negative-begun now p (or-left (has-begun now (negsuc p)) (past-horizon now (negsuc p)) e))
+  where
+    negative-begun : (now p : ℕ) → has-begun now (negsuc p) ≡ false → ⊥
+    negative-begun now p e = unfold has-begun in true≢false e
 
 -- Another period of the slot of one that may be filed for has begun or lies past the horizon: no two share a slot.
 pub one-of-a-slot : (now p q : ℕ) → now < start-of p → p < horizon-end now → now < start-of q → q ≢ p → slot-of q ≡ slot-of p → horizon-end now ≤ q
