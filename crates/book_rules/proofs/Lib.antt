@@ -8,3 +8,4 @@ pub mod Same
 pub mod Opening
 pub mod EveryCall
 pub mod Striking
+pub mod ByNumber

@@ -63,7 +63,7 @@ filed vw b (is-withdrawal e) z = for-nobody (noticeK 5) _ (withdrawal-files b e)
 filed vw b (is-look-up e) z = nothing-filed (look-up-files b e) (filing 8 b e false refl)
 filed vw b (is-total e) z = nothing-filed (total-files b e) (filing 9 b e false refl)
 
-reply-number : (vw : View) (b : List ℕ) → reply vw b .number ≡ 0
+pub reply-number : (vw : View) (b : List ℕ) → reply vw b .number ≡ 0
 unfolding reply look-up-reply total-reply found totalled plain
 reply-number vw b = go (eqb (call-of b) 8) (eqb (call-of b) 9)
   where

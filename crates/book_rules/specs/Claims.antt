@@ -1,18 +1,43 @@
--- Demand 3: the claims about every list of calls. Their proofs are in proofs/.
--- Premise of both: each call is lent the words that the call before left, the first those that an accepted opening left.
+-- The demands, as claims about the definitions. Their proofs are in proofs/.
 use mathlib.Core.Path.{_≡_}
+use mathlib.Core.Logic.{_↔_}
 use mathlib.Core.Bool.{Bool, true, false, cond, not, _&&_, _||_}
 use mathlib.Core.List.{List, [], _∷_}
-use Prim.Native.Nat.{ℕ}
+use Prim.Native.Nat.{ℕ, _<_}
 use lib.Dec.{eqb}
 use lib.IntN.{ℤ}
 use lib.ListN.{length}
 use Rattle.offer_rules.specs.Numbers.{toNat}
 use Rattle.book_rules.specs.Record.{call-of, facility-of, between}
 use Rattle.book_rules.specs.Words.{opening-number, opening-words}
-use Rattle.book_rules.specs.Force.{Answer}
+use Rattle.book_rules.specs.Force.{Answer, plain}
 use Rattle.book_rules.specs.Book.{book-answer, book-after, book-answers, book-run}
+use Rattle.book_rules.specs.ByNumber.{applies}
 use Rattle.book_rules.specs.ListMachine.{list-answers}
+
+-- Number 0.
+abbrev pub is-accepted : List ℤ → List ℕ → Bool
+is-accepted w b = eqb (book-answer w b .number) 0
+
+-- ---- demand 1
+
+-- A refused call returns zeros beside its number and leaves every word of the book unchanged, for every words and every bytes.
+unfoldable pub RefusedChangesNothing : Type 0
+RefusedChangesNothing = (w : List ℤ) (b : List ℕ) → is-accepted w b ≡ false → (book-answer w b ≡ plain (book-answer w b .number)) × (book-after w b ≡ w)
+
+-- ---- demand 2
+
+-- A call is accepted exactly when no listed condition applies.
+unfoldable pub AcceptedExactly : Type 0
+AcceptedExactly = (w : List ℤ) (b : List ℕ) → (is-accepted w b ≡ true) ↔ ((n : ℕ) → applies w b n ≡ false)
+
+-- Else it is refused with the lowest number that applies.
+unfoldable pub LowestThatApplies : Type 0
+LowestThatApplies = (w : List ℤ) (b : List ℕ) → is-accepted w b ≡ false
+    → (applies w b (book-answer w b .number) ≡ true) × ((n : ℕ) → n < book-answer w b .number → applies w b n ≡ false)
+
+-- ---- demand 3: every list of calls
+-- Premise: each call is lent the words that the call before left, the first those that an accepted opening left.
 
 -- For every words lent, every F, S and limits that the opening accepts and every list of byte strings,
 -- the book's answers (number, 24 words, sum) are the list machine's.
@@ -26,9 +51,6 @@ is-others-filing f b = between 2 5 (call-of b) && not (eqb (facility-of b) f)
 
 abbrev pub is-look-up-for : ℕ → List ℕ → Bool
 is-look-up-for f b = eqb (call-of b) 8 && eqb (facility-of b) f
-
-abbrev pub is-accepted : List ℤ → List ℕ → Bool
-is-accepted w b = eqb (book-answer w b .number) 0
 
 -- The list without its refused calls and without the filings for other facilities than f;
 -- "Which calls are refused is read from the run of the whole list", which starts from w.

@@ -5,4 +5,5 @@ pub mod Force
 pub mod Refusals
 pub mod Book
 pub mod ListMachine
+pub mod ByNumber
 pub mod Claims

@@ -23,32 +23,50 @@ unfoldable pub facility-number : List ℤ → ℕ
 facility-number c = draw (not (has-kind c)) 5
 
 -- 6 "A below now or above 1,000,000,000"
+abbrev pub clock-refused : ℕ → ℤ → Bool
+clock-refused now a = beyond (pos now) (pos 1000000000) a
+
 unfoldable pub clock-number : ℕ → ℤ → ℕ
-clock-number now a = draw (beyond (pos now) (pos 1000000000) a) 6
+clock-number now a = draw (clock-refused now a) 6
 
 -- 7 "outage: not 0 ≤ m ≤ now, or n outside 1–3 (load 1–48)"
+abbrev pub outage-refused : ℕ → List ℤ → ℤ → ℤ → Bool
+outage-refused now c m n = beyond (pos 0) (pos now) m || beyond (pos 1) (cond (is-load (kind-of c)) (pos 48) (pos 3)) n
+
 unfoldable pub outage-number : ℕ → List ℤ → ℤ → ℤ → ℕ
-outage-number now c m n = draw (beyond (pos 0) (pos now) m || beyond (pos 1) (cond (is-load (kind-of c)) (pos 48) (pos 3)) n) 7
+outage-number now c m n = draw (outage-refused now c m n) 7
 
 -- 7 "notice: reason not 3–5, or not 0 ≤ A ≤ B ≤ 40,000,000"
+abbrev pub notice-refused : ℕ → ℤ → ℤ → Bool
+notice-refused k a b = not (between 3 5 k) || not ((leZ (pos 0) a && leZ a b) && leZ b (pos 40000000))
+
 unfoldable pub notice-number : ℕ → ℤ → ℤ → ℕ
-notice-number k a b = draw (not (between 3 5 k) || not ((leZ (pos 0) a && leZ a b) && leZ b (pos 40000000))) 7
+notice-number k a b = draw (notice-refused k a b) 7
 
 -- 7 "withdrawal: reason not 5"
+abbrev pub withdrawal-refused : ℕ → Bool
+withdrawal-refused k = not (eqb k 5)
+
 unfoldable pub withdrawal-number : ℕ → ℕ
-withdrawal-number k = draw (not (eqb k 5)) 7
+withdrawal-number k = draw (withdrawal-refused k) 7
 
 -- 8 "capability: kind not 1 or 2 or unlike a held 1 or 2; W1–W6 outside 0–99,999; W7, W8 outside 0–9,999; W9–W11 outside 0–1,000;
 -- a mark not 0 or 1; load with mark 0 or 4 set"
-unfoldable pub capability-number : List ℤ → List ℤ → ℕ
-capability-number held c =
-    draw (((not (has-kind c) || (has-kind held && not (eqZ (kind-of held) (kind-of c))))
+abbrev pub capability-refused : List ℤ → List ℤ → Bool
+capability-refused held c =
+    ((not (has-kind c) || (has-kind held && not (eqZ (kind-of held) (kind-of c))))
     || ((any-beyond (pos 0) (pos 99999) c 1 6 || any-beyond (pos 0) (pos 9999) c 7 2) || any-beyond (pos 0) (pos 1000) c 9 3))
-    || (any-beyond (pos 0) (pos 1) c 12 5 || (is-load (kind-of c) && (eqZ (mark-for c 0) (pos 1) || eqZ (mark-for c 4) (pos 1))))) 8
+    || (any-beyond (pos 0) (pos 1) c 12 5 || (is-load (kind-of c) && (eqZ (mark-for c 0) (pos 1) || eqZ (mark-for c 4) (pos 1))))
+
+unfoldable pub capability-number : List ℤ → List ℤ → ℕ
+capability-number held c = draw (capability-refused held c) 8
 
 -- 9 "mark for the service not 1"
+abbrev pub is-registered : List ℤ → ℕ → Bool
+is-registered c s = eqZ (mark-for c s) (pos 1)
+
 unfoldable pub registration-number : List ℤ → ℕ → ℕ
-registration-number c s = draw (not (eqZ (mark-for c s) (pos 1))) 9
+registration-number c s = draw (not (is-registered c s)) 9
 
 -- 18 "standing offer equal to the held one in cell words 1–23"
 unfoldable pub equal-words : List ℤ → List ℤ → Bool

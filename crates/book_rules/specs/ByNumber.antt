@@ -1,0 +1,88 @@
+-- Document 01, "Who draws which number", number by number: the condition of each, on the calls that it names.
+-- Demand 2 speaks of this list; the order in which a call is tested is in Refusals.
+use mathlib.Core.Bool.{Bool, true, false, cond, not, _&&_, _||_}
+use mathlib.Core.List.{List, [], _∷_}
+use mathlib.Core.Option.{Option, none, some}
+use Prim.Native.Nat.{ℕ, zero, suc}
+use lib.Dec.{eqb}
+use lib.IntN.{ℤ}
+use lib.ListN.{getD}
+use Rattle.offer_rules.specs.Numbers.{toNat}
+use Rattle.offer_rules.specs.Time.{slot-refused, period-refused}
+use Rattle.offer_rules.specs.Offer.{Pair, pairs, sum-of, any-pair, out-of-range, is-priced-blank, non-blank-prices, rises, ramp-refused, proportion-refused, above-capacity}
+use Rattle.offer_rules.specs.Gate.{gate-refuses, standing-gate-refuses}
+use Rattle.book_rules.specs.Record.{call-of, facility-of, service-of, period-word, reason-of, word-A, word-B, capability-in, offer-in, is-record, outside, has-stray}
+use Rattle.book_rules.specs.Words.{is-book}
+use Rattle.book_rules.specs.Force.{View, InForce, in-force, pairs-of, counted}
+use Rattle.book_rules.specs.Refusals.{has-kind, clock-refused, outage-refused, notice-refused, withdrawal-refused, capability-refused, is-registered, equal-words, grounds}
+use Rattle.book_rules.specs.Book.{book-view}
+
+abbrev pub is-call : ℕ → List ℕ → Bool
+is-call k b = eqb (call-of b) k
+
+abbrev pub is-offer : List ℕ → Bool
+is-offer b = is-call 3 b || is-call 4 b
+
+-- A test of the held standing offer, where there is one.
+unfoldable pub of-held : (List ℤ → Bool) → Option (List ℤ) → Bool
+of-held test none = false
+of-held test (some o) = test o
+
+module _ (vw : View) (b : List ℕ) where
+  abbrev pub own-capability : List ℤ
+  own-capability = vw .capability (facility-of b)
+
+  -- Call 3 carries no reason.
+  abbrev pub own-reason : ℕ
+  own-reason = cond (is-call 4 b) (reason-of b) 0
+
+  abbrev pub own-pairs : List Pair
+  own-pairs = pairs (offer-in b)
+
+  abbrev pub own-force : InForce
+  own-force = in-force vw (facility-of b) (service-of b) (toNat (period-word b))
+
+  abbrev pub own-held : Option (List ℤ)
+  own-held = vw .standing (facility-of b) (service-of b) (toNat (period-word b))
+
+  -- 5 to 19.
+  unfoldable pub conditions-from-5 : List Bool
+  conditions-from-5 =
+      -- 5 "facility has kind neither 1 nor 2 in the book (calls 3, 4, 5, 8)"
+      (((is-offer b || is-call 5 b) || is-call 8 b) && not (has-kind own-capability))
+      -- 6 the clock
+      ∷ ((is-call 1 b && clock-refused (vw .now) (word-A b))
+      -- 7 "outage: ..; notice: ..; withdrawal: .."
+      ∷ ((((is-call 5 b && outage-refused (vw .now) own-capability (word-A b) (word-B b)) || (is-call 6 b && notice-refused (reason-of b) (word-A b) (word-B b)))
+      || (is-call 7 b && withdrawal-refused (reason-of b)))
+      -- 8 "capability: .."
+      ∷ ((is-call 2 b && capability-refused own-capability (capability-in b))
+      -- 9 "mark for the service not 1"
+      ∷ ((is-offer b && not (is-registered own-capability (service-of b)))
+      -- 10 "slot outside 0–335; P begun .. or P ≥ 48·(d + 7) .. Also calls 8 and 9, for P."
+      ∷ (((is-call 3 b && slot-refused (period-word b)) || (((is-call 4 b || is-call 8 b) || is-call 9 b) && period-refused (vw .now) (period-word b)))
+      -- 11 to 16 of an offer
+      ∷ ((is-offer b && out-of-range (vw .limits) (service-of b) own-reason (offer-in b))
+      ∷ ((is-offer b && any-pair is-priced-blank own-pairs)
+      ∷ ((is-offer b && not (rises (non-blank-prices own-pairs)))
+      ∷ ((is-offer b && ramp-refused own-capability (service-of b) (offer-in b))
+      ∷ ((is-offer b && proportion-refused own-capability (service-of b) (offer-in b))
+      ∷ ((is-offer b && above-capacity own-capability (service-of b) (sum-of own-pairs))
+      -- 17 "gate"
+      ∷ (((is-call 3 b && of-held (λ _. standing-gate-refuses (vw .now) (toNat (period-word b))) own-held)
+      || (is-call 4 b && gate-refuses (vw .now) (grounds vw (facility-of b)) (service-of b) (toNat (period-word b)) (reason-of b) (pairs-of own-force) own-pairs))
+      -- 18 "standing offer equal to the held one in cell words 1–23"
+      ∷ ((is-call 3 b && of-held (λ held. equal-words held (offer-in b)) own-held)
+      -- 19 "nothing in force (call 8)"
+      ∷ ((is-call 8 b && eqb (counted own-force) 0)
+      ∷ []))))))))))))))
+
+-- The conditions of numbers 1 to 19, of a record on a book's words.
+unfoldable pub conditions : List ℤ → List ℕ → List Bool
+conditions w b =
+    not (is-book w) ∷ (not (is-record b) ∷ (outside b (book-view w .facilities) (book-view w .services) ∷ (has-stray b ∷ conditions-from-5 (book-view w) b)))
+
+-- Whether the condition of number n applies.
+unfoldable pub applies : List ℤ → List ℕ → ℕ → Bool
+applies w b zero = false
+applies w b (suc n) = getD (conditions w b) n false
