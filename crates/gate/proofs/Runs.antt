@@ -10,7 +10,7 @@ use lib.IntN.{ℤ, pos, negsuc}
 use Rattle.offer_rules.specs.Numbers.{eqZ}
 use Rattle.offer_rules.specs.Offer.{Pair}
 use Rattle.offer_rules.specs.Gate.{tenths-of, total-tenths, price-of-tenth, same-prices-to, same-prices}
-use Rattle.gate.specs.Differing.{or-else, first-differing-to, first-differing}
+use Rattle.gate.specs.Differing.{or-else, first-differing-to, smaller-total, first-differing}
 use Rattle.gate.specs.Merging.{cut, later}
 
 -- An offer that begins with n tenths at p.
@@ -96,14 +96,17 @@ within x y p q (suc k) f g =
     rw (ne-eqb (suc k) 0 (λ e. omega arith), f k (omega arith), g k (omega arith), within x y p q k (λ m h. f m (omega arith)) (λ m h. g m (omega arith)))
     (one-price k (eqb k 0) (eqZ p q) refl)
 
+total-past-run : (p q : ℤ) (a b : ℕ) (l k : List Pair) → a ≤ b → smaller-total (run p a l) (run q b k) ≡ smaller-total (cut 0 l) (run q (b - a) k) + a
+unfolding smaller-total total-tenths
+total-past-run p q a b l k h = rw (total-cut l) (omega arith)
+
 -- The whole of old's first run, of a tenths, and as many of new's.
 pub pass-shorter : (p q : ℤ) (a b : ℕ) (l k : List Pair) → a ≤ b
     → first-differing (run p a l) (run q b k) ≡ or-else (cond (eqb a 0 || eqZ p q) 0 1) (later a (first-differing (cut 0 l) (run q (b - a) k)))
-unfolding first-differing total-tenths
+unfolding first-differing
 pass-shorter p q a b l k h =
-    let e : min (a + total-tenths l) (b + total-tenths k) ≡ min (total-tenths l) (b - a + total-tenths k) + a = omega arith in
-    rw (e, total-cut l, ← within (run p a l) (run q b k) p q a (λ m. in-run p a l m) (λ m j. in-run q b k m (omega arith)))
-    (split (run p a l) (run q b k) (cut 0 l) (run q (b - a) k) a (min (total-tenths l) (b - a + total-tenths k)) (past-run p a l) (λ m. shorter-run q b k a m h))
+    rw (total-past-run p q a b l k h, ← within (run p a l) (run q b k) p q a (λ m. in-run p a l m) (λ m j. in-run q b k m (omega arith)))
+    (split (run p a l) (run q b k) (cut 0 l) (run q (b - a) k) a (smaller-total (cut 0 l) (run q (b - a) k)) (past-run p a l) (λ m. shorter-run q b k a m h))
 
 -- ---- old and new change places
 
@@ -125,11 +128,13 @@ unfolding first-differing-to
 flip-to zero x y = refl
 flip-to (suc n) x y = rw (eqZ-sym (price-of-tenth x (suc n)) (price-of-tenth y (suc n)), flip-to n x y)
 
+flip-total : (x y : List Pair) → smaller-total x y ≡ smaller-total y x
+unfolding smaller-total
+flip-total x y = omega arith
+
 pub flip : (x y : List Pair) → first-differing x y ≡ first-differing y x
 unfolding first-differing
-flip x y =
-    let e : min (total-tenths x) (total-tenths y) ≡ min (total-tenths y) (total-tenths x) = omega arith in
-    rw e (flip-to (min (total-tenths y) (total-tenths x)) x y)
+flip x y = rw (flip-total x y) (flip-to (smaller-total y x) x y)
 
 pub pass-shorter-new : (p q : ℤ) (a b : ℕ) (l k : List Pair) → b ≤ a
     → first-differing (run p a l) (run q b k) ≡ or-else (cond (eqb b 0 || eqZ p q) 0 1) (later b (first-differing (run p (a - b) l) (cut 0 k)))
@@ -144,12 +149,16 @@ uncut-to zero x y = refl
 uncut-to (suc n) x y = rw (price-cut x (suc n), price-cut y (suc n), uncut-to n x y)
 
 pub uncut : (x y : List Pair) → first-differing (cut 0 x) (cut 0 y) ≡ first-differing x y
-unfolding first-differing
+unfolding first-differing smaller-total
 uncut x y = rw (total-cut x, total-cut y) (uncut-to (min (total-tenths x) (total-tenths y)) x y)
 
+none-to-compare : (n : ℕ) (y : List Pair) → smaller-total (cut n []) y ≡ 0
+unfolding smaller-total total-tenths cut
+none-to-compare n y = omega arith
+
 pub none-left : (n : ℕ) (y : List Pair) → first-differing (cut n []) y ≡ 0
-unfolding first-differing first-differing-to total-tenths cut
-none-left n y = let e : min 0 (total-tenths y) ≡ 0 = omega arith in rw e
+unfolding first-differing first-differing-to
+none-left n y = rw (none-to-compare n y)
 
 -- ---- no tenth differs exactly where all prices are the same
 
@@ -168,5 +177,5 @@ none-to (suc n) x y =
     or-same (first-differing-to n x y) n (eqZ (price-of-tenth x (suc n)) (price-of-tenth y (suc n))) (same-prices-to n x y) (none-to n x y)
 
 pub none-differs-is-same : (old new : List Pair) → eqb (first-differing old new) 0 ≡ same-prices old new
-unfolding first-differing same-prices
+unfolding first-differing smaller-total same-prices
 none-differs-is-same old new = none-to (min (total-tenths old) (total-tenths new)) old new

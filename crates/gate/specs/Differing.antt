@@ -18,5 +18,8 @@ first-differing-to zero old new = 0
 first-differing-to (suc n) old new =
     or-else (first-differing-to n old new) (cond (eqZ (price-of-tenth old (suc n)) (price-of-tenth new (suc n))) 0 (suc n))
 
+unfoldable pub smaller-total : List Pair → List Pair → ℕ
+smaller-total old new = min (total-tenths old) (total-tenths new)
+
 unfoldable pub first-differing : List Pair → List Pair → ℕ
-first-differing old new = first-differing-to (min (total-tenths old) (total-tenths new)) old new
+first-differing old new = first-differing-to (smaller-total old new) old new

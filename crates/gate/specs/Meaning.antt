@@ -13,5 +13,5 @@ grounds-of g = record {
   outage = window-of (g .outage);
   surplus = window-of (g .surplus);
   shortfall = window-of (g .shortfall);
-  status = window-of (g .status)
+  status = window-of (g .status);
 }

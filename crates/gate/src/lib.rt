@@ -12,9 +12,9 @@ ghost use Rattle.gate.specs.Merging.{left-of, alike, differ, merged};
 ghost use Rattle.gate.specs.Meaning.{window-of, grounds-of};
 use units::Price;
 use units::Quantity;
+use units::nat;
 use units::price_at;
 use units::quantity_at;
-use units::nat;
 
 // "A variation is open when 30·P − now is 65 or more."
 const GATE_CLOSURE_MINUTES: u64 = 65;
@@ -24,7 +24,7 @@ const PERIOD_MINUTES: u64 = 30;
 const SLOTS: u64 = 336;
 
 // A merge of two offers: the pair that it has come to in each, that pair's tenths that are passed, and all tenths passed.
-pub struct Merge {
+struct Merge {
     pub old_pair: usize,
     pub old_used: u64,
     pub new_pair: usize,
@@ -74,7 +74,7 @@ fn same_price(a: Price, b: Price) -> bool
     a.0 == b.0
 }
 
-fn are_alike(old: &[i32], i: usize, new: &[i32], j: usize) -> bool
+fn prices_alike(old: &[i32], i: usize, new: &[i32], j: usize) -> bool
     requires { ⌜ (2 * i + 1 < length (now old)) × (2 * j + 1 < length (now new)) ⌝ }
     ensures { λ r. ⌜ r ≡ alike (now (old .entry)) i (now (new .entry)) j ⌝ }
 {
@@ -82,14 +82,14 @@ fn are_alike(old: &[i32], i: usize, new: &[i32], j: usize) -> bool
 }
 
 // Both pairs have tenths left, at two prices.
-fn do_differ(a: u64, b: u64, same: bool) -> bool
+fn pairs_differ(a: u64, b: u64, same: bool) -> bool
     ensures { λ r. ⌜ r ≡ differ a b same ⌝ }
 {
     ((0 < a) & (0 < b)) & !same
 }
 
 // A step passes the pair with fewer tenths left, a of old's or b of new's.
-fn merge_on(s: Merge, a: u64, b: u64) -> Merge
+fn merge_step(s: Merge, a: u64, b: u64) -> Merge
     requires { ⌜ (s .«old_pair» < 9223372036854775808) × (s .«new_pair» < 9223372036854775808) × (s .«old_used» + a < 2147483648) × (s .«new_used» + b < 2147483648) × (s .passed < 9223372036854775808) ⌝ }
     ensures { λ r. ⌜ r ≡ merged s a b ⌝ }
 {
@@ -128,11 +128,11 @@ pub fn first_differing_tenth(old: &[i32], new: &[i32]) -> u64
     while s.old_pair < m && s.new_pair < n {
         let a = left_of(old, s.old_pair, s.old_used);
         let b = left_of(new, s.new_pair, s.new_used);
-        let same = are_alike(old, s.old_pair, new, s.new_pair);
-        if do_differ(a, b, same) {
+        let same = prices_alike(old, s.old_pair, new, s.new_pair);
+        if pairs_differ(a, b, same) {
             return s.passed + 1;
         }
-        s = merge_on(s, a, b);
+        s = merge_step(s, a, b);
     }
     0
 }
@@ -207,14 +207,25 @@ fn is_before_closure(clock: u64, period: u64) -> bool
 }
 
 // 17, of a variation; old holds no pairs where no offer is in force.
-pub fn gate_refuses(clock: u64, g: Grounds, service: u8, period: u64, reason: u8, old: &[i32], new: &[i32]) -> bool
+pub fn gate_refuses(
+    clock: u64,
+    g: Grounds,
+    service: u8,
+    period: u64,
+    reason: u8,
+    old: &[i32],
+    new: &[i32],
+) -> bool
     requires { ⌜ (clock ≤ 1000000000) × (period < 2147483648) × (length (now old) ≤ 20) × (length (now new) ≤ 20) ⌝ }
     ensures { λ r. ⌜ r ≡ gate-refuses clock (grounds-of g) service period reason (pairs-in (now (old .entry))) (pairs-in (now (new .entry))) ⌝ }
 {
     if is_before_closure(clock, period) {
         return false;
     }
-    !(reason_holds(g, service, period, total_tenths(old), total_tenths(new), reason) & same_prices(old, new))
+    let before = total_tenths(old);
+    let after = total_tenths(new);
+    let allowed = reason_holds(g, service, period, before, after, reason);
+    !(allowed & same_prices(old, new))
 }
 
 // "the slot's next period not yet begun"

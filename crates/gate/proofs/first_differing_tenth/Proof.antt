@@ -1,3 +1,5 @@
+-- first_differing_tenth: the answer that the merge comes to is the same at each step,
+-- and each step passes one pair.
 use borrow.Author.Needs.{needs}
 use native.Mathlib.Omega.{arith}
 use mathlib.Core.Path.{_≡_, sym, ap, _∙_}
@@ -21,7 +23,7 @@ abbrev μ-loop : tie.MeasureT-loop
 μ-loop old new m n s₀ s = m + n - (s .«old_pair» + s .«new_pair»)
 
 loop-holds : tie.Need-loop-holds Inv-loop μ-loop
-loop-holds c = 
+loop-holds c =
     (omega arith, omega arith, omega arith, omega arith, omega arith, omega arith, omega arith, omega arith, omega arith, start-is-whole (c .args .old .now) (c .args .new .now))
 
 -- The loop's second test, of the length itself.
@@ -36,42 +38,42 @@ left-of-requires c κs = search needs
 left-of-requires-2 : tie.Need-left-of-requires-2 Inv-loop μ-loop
 left-of-requires-2 c κs = (omega (arith, new-has-more (c .before)), omega arith)
 
-are-alike-requires : tie.Need-are-alike-requires Inv-loop μ-loop
-are-alike-requires c κs = (omega arith, omega (arith, new-has-more (c .before .before)))
+prices-alike-requires : tie.Need-prices-alike-requires Inv-loop μ-loop
+prices-alike-requires c κs = (omega arith, omega (arith, new-has-more (c .before .before)))
 
-do-differ-requires : tie.Need-do-differ-requires Inv-loop μ-loop
-do-differ-requires c κs = search needs
+pairs-differ-requires : tie.Need-pairs-differ-requires Inv-loop μ-loop
+pairs-differ-requires c κs = search needs
 
 add-result : tie.Need-add-result Inv-loop μ-loop
 add-result c = search needs
 
 -- The test of the two pairs, of the offers' words.
-tested : (c : tie.After-do-differ Inv-loop μ-loop) → let l = c .before .before .before .before .before .before .before .before in
+tested : (c : tie.After-pairs-differ Inv-loop μ-loop) → let l = c .before .before .before .before .before .before .before .before in
     let old = l .before .args .old .now in
     let new = l .before .args .new .now in
     let s = l .loop .s in
-    c .do-differ .result ≡ differ (left-of old (s .«old_pair») (s .«old_used»)) (left-of new (s .«new_pair») (s .«new_used»)) (alike old (s .«old_pair») new (s .«new_pair»))
+    c .pairs-differ .result ≡ differ (left-of old (s .«old_pair») (s .«old_used»)) (left-of new (s .«new_pair») (s .«new_used»)) (alike old (s .«old_pair») new (s .«new_pair»))
 tested c =
-    rw (← c .before .are-alike .ensures, ← c .before .before .left-of2 .ensures .0, ← c .before .before .before .left-of .ensures .0) (c .do-differ .ensures)
+    rw (← c .before .prices-alike .ensures, ← c .before .before .left-of2 .ensures .0, ← c .before .before .before .left-of .ensures .0) (c .pairs-differ .ensures)
 
 returns : tie.Need-returns Inv-loop μ-loop
-returns c = 
+returns c =
     let l = c .before .before .before .before .before .before .before .before .before .before in
     let m = new-has-more (c .before .before .before .before .before .before) in
     sym (difference-is-answer (l .before .args .old .now) (l .before .args .new .now) (l .loop .s) (omega arith) (omega (arith, m)) (sym (tested (c .before .before)) ∙ c .before .if3 .taken))
     ∙ l .loop .inv .9
 
-merge-on-requires : tie.Need-merge-on-requires Inv-loop μ-loop
-merge-on-requires c κs = search needs
+merge-step-requires : tie.Need-merge-step-requires Inv-loop μ-loop
+merge-step-requires c κs = search needs
 
-sizes-after : (c : tie.After-merge-on Inv-loop μ-loop) → let l = c .before .before .before .before .before .before .before .before .before .before in
+sizes-after : (c : tie.After-merge-step Inv-loop μ-loop) → let l = c .before .before .before .before .before .before .before .before .before .before in
     let s = l .loop .s in
-    let r = c .merge-on .result in
+    let r = c .merge-step .result in
     (r .«old_pair» ≤ length (l .before .args .old .now) / 2) × (r .«new_pair» ≤ length (l .before .args .new .now) / 2) × (r .«old_used» < 2147483648) × (r .«new_used» < 2147483648)
     × (r .«old_pair» + r .«new_pair» ≡ s .«old_pair» + s .«new_pair» + 1) × (r .passed ≤ s .passed + 2147483648)
 sizes-after c =
     let l = c .before .before .before .before .before .before .before .before .before .before in
-    rw (c .merge-on .ensures)
+    rw (c .merge-step .ensures)
     (step-sizes (l .loop .s) (c .before .before .before .before .before .left-of .result) (c .before .before .before .before .left-of2 .result)
     (length (l .before .args .old .now) / 2) (length (l .before .args .new .now) / 2) 2147483648 (omega arith) (new-has-more (c .before .before .before .before .before .before)) (omega arith) (omega arith))
 
@@ -79,15 +81,15 @@ loop-less : tie.Need-loop-less Inv-loop μ-loop
 loop-less c = omega (arith, sizes-after c)
 
 loop-again : tie.Need-loop-again Inv-loop μ-loop
-loop-again c = 
+loop-again c =
     let l = c .before .before .before .before .before .before .before .before .before .before in
     let old = l .before .args .old .now in
     let new = l .before .args .new .now in
     let s = l .loop .s in
     let m = new-has-more (c .before .before .before .before .before .before) in
     let k = sizes-after c in
-    let r : c .merge-on .result ≡ merged s (left-of old (s .«old_pair») (s .«old_used»)) (left-of new (s .«new_pair») (s .«new_used»)) =
-        rw (← c .before .before .before .before .left-of2 .ensures .0, ← c .before .before .before .before .before .left-of .ensures .0) (c .merge-on .ensures) in (
+    let r : c .merge-step .result ≡ merged s (left-of old (s .«old_pair») (s .«old_used»)) (left-of new (s .«new_pair») (s .«new_used»)) =
+    rw (← c .before .before .before .before .left-of2 .ensures .0, ← c .before .before .before .before .before .left-of .ensures .0) (c .merge-step .ensures) in (
       k .0,
       k .1,
       k .2,
@@ -103,13 +105,13 @@ loop-again c =
     )
 
 returns-2 : tie.Need-returns-2 Inv-loop μ-loop
-returns-2 c = 
+returns-2 c =
     let l = c .before .before .before .before in
     let h : length (l .before .args .new .now) / 2 ≤ l .loop .s .«new_pair» = ltb-false (l .loop .s .«new_pair») (length (l .before .args .new .now) / 2) (c .if2 .left) in
     sym (new-at-end (l .before .args .old .now) (l .before .args .new .now) (l .loop .s) (omega arith)) ∙ l .loop .inv .9
 
 returns-3 : tie.Need-returns-3 Inv-loop μ-loop
-returns-3 c = 
+returns-3 c =
     let l = c .before .before in
     sym (old-at-end (l .before .args .old .now) (l .before .args .new .now) (l .loop .s) (omega arith)) ∙ l .loop .inv .9
 
@@ -122,11 +124,11 @@ first-differing-tenth-spec =
     loop-holds
     left-of-requires
     left-of-requires-2
-    are-alike-requires
-    do-differ-requires
+    prices-alike-requires
+    pairs-differ-requires
     add-result
     returns
-    merge-on-requires
+    merge-step-requires
     loop-less
     loop-again
     returns-2

@@ -1,3 +1,4 @@
+-- gate_refuses: open, or else the reason and the prices.
 use Rattle.offer_rules.specs.Gate.{gate-refuses}
 use borrow.Author.Needs.{needs}
 use Rattle.gate.proofs.gate_refuses.Statement.{statement}

@@ -1,3 +1,4 @@
+-- is_covered: the period between the two words of the window.
 use native.Mathlib.Omega.{arith}
 use mir.Syntax.{w32}
 use mir.Val.{SFits}

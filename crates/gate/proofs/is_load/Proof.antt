@@ -1,3 +1,4 @@
+-- is_load: bits alike are kinds alike.
 use borrow.Author.Needs.{needs}
 use lib.IntN.{pos}
 use mir.Facts.{sfits-lit}

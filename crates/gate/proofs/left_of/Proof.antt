@@ -1,3 +1,4 @@
+-- left_of: the quantity of the pair, less the tenths used.
 use native.Mathlib.Omega.{arith}
 use Rattle.gate.specs.Merging.{left-of}
 use borrow.Author.Needs.{needs}

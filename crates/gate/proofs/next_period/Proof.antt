@@ -1,3 +1,4 @@
+-- next_period: the remainders, as they are defined.
 use native.Mathlib.Omega.{arith}
 use Rattle.offer_rules.specs.Time.{next-period}
 use borrow.Author.Needs.{needs}

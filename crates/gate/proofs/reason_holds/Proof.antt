@@ -1,3 +1,4 @@
+-- reason_holds: an arm for each reason, and false for bytes that are none.
 use borrow.Author.Tests.{ne-eqb}
 use Rattle.offer_rules.specs.Gate.{reason-holds}
 use borrow.Author.Needs.{needs}

@@ -1,3 +1,4 @@
+-- same_price: bits alike are prices alike.
 use borrow.Author.Needs.{needs}
 use Rattle.units.proofs.Signs.{eqb-bits}
 use Rattle.gate.proofs.same_price.Statement.{statement}

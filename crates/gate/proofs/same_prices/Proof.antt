@@ -1,3 +1,4 @@
+-- same_prices: no tenth differs.
 use mathlib.Core.Path.{ap, _∙_}
 use Prim.Native.Nat.{ℕ}
 use lib.Dec.{eqb}

@@ -1,3 +1,4 @@
+-- standing_gate_refuses: the gate of the slot's next period.
 use Rattle.offer_rules.specs.Gate.{standing-gate-refuses}
 use borrow.Author.Needs.{needs}
 use Rattle.gate.proofs.standing_gate_refuses.Statement.{statement}

@@ -1,3 +1,4 @@
+-- tenths_in: the quantity as a count.
 use mathlib.Core.Path.{ap, _∙_}
 use mir.Syntax.{w32}
 use mir.Facts.{toZ-ofZ}

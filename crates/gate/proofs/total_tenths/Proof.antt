@@ -1,3 +1,4 @@
+-- total_tenths: the tenths so far and those of the pairs left are the whole.
 use borrow.Author.Needs.{needs}
 use native.Mathlib.Omega.{arith}
 use mathlib.Core.Path.{_≡_, ap, _∙_}
@@ -44,15 +45,15 @@ loop-less : tie.Need-loop-less Inv-loop μ-loop
 loop-less c = search needs
 
 loop-again : tie.Need-loop-again Inv-loop μ-loop
-loop-again c = 
+loop-again c =
     let l = c .before .before .before in
     let q : c .tenths-in .result ≡ toNat (word (l .before .args .pairs .now) (2 * l .loop .i + 1)) =
-        c .tenths-in .ensures .0 ∙ ap (λ (x : Quantity). toNat (x .0)) (c .before .quantity-at .ensures) in
+    c .tenths-in .ensures .0 ∙ ap (λ (x : Quantity). toNat (x .0)) (c .before .quantity-at .ensures) in
     let k = total-from (l .before .args .pairs .now) (l .loop .i) (omega arith) in
     (omega arith, omega arith, omega arith, omega arith, omega (arith, q, k, l .loop .inv .4))
 
 returns : tie.Need-returns Inv-loop μ-loop
-returns c = 
+returns c =
     let l = c .before in
     (omega (arith, l .loop .inv .4, total-at-end (l .before .args .pairs .now) (l .loop .i) (omega arith)), omega arith)
 

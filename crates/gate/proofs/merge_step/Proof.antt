@@ -1,8 +1,9 @@
+-- merge_step: old's pair is passed where it has no more tenths left than new's, else new's.
 use borrow.Author.Tests.{le-leb, lt-leb}
 use Rattle.gate.specs.Merging.{merged}
 use borrow.Author.Needs.{needs}
-use Rattle.gate.proofs.merge_on.Statement.{statement}
-use Rattle.gate.proofs.merge_on.Tie as tie
+use Rattle.gate.proofs.merge_step.Statement.{statement}
+use Rattle.gate.proofs.merge_step.Tie as tie
 
 add-t5 : tie.Need-add-t5
 add-t5 c = search needs
@@ -30,5 +31,5 @@ returns-2 : tie.Need-returns-2
 unfolding merged
 returns-2 c = let s = c .before .before .before .before in rw (lt-leb (s .args .a) (s .args .b) (c .before .before .before .if1 .left))
 
-pub merge-on-spec : {M : Type 1} → statement M
-merge-on-spec = tie.close (tie.spec add-t5 add-t6 add-t7 returns add-t8 add-t9 add-t10 returns-2)
+pub merge-step-spec : {M : Type 1} → statement M
+merge-step-spec = tie.close (tie.spec add-t5 add-t6 add-t7 returns add-t8 add-t9 add-t10 returns-2)

@@ -1,7 +1,8 @@
+-- prices_alike: the prices of one pair of each offer.
 use Rattle.gate.specs.Merging.{alike}
 use borrow.Author.Needs.{needs}
-use Rattle.gate.proofs.are_alike.Statement.{statement}
-use Rattle.gate.proofs.are_alike.Tie as tie
+use Rattle.gate.proofs.prices_alike.Statement.{statement}
+use Rattle.gate.proofs.prices_alike.Tie as tie
 
 mul-price-at : tie.Need-mul-price-at
 mul-price-at c = search needs
@@ -22,8 +23,8 @@ returns : tie.Need-returns
 unfolding alike
 returns c = rw (c .same-price .ensures, c .before .price-at2 .ensures, c .before .before .price-at .ensures)
 
-pub are-alike-spec : {M : Type 1} → statement M
-are-alike-spec =
+pub prices-alike-spec : {M : Type 1} → statement M
+prices-alike-spec =
     tie.close
     (tie.spec
     mul-price-at
