@@ -32,6 +32,9 @@ left-after : (w : List ℤ) (i n a : ℕ) → left-of w i (n + a) ≡ left-of w 
 unfolding left-of
 left-after w i n a = omega arith
 
+rest-less : (w : List ℤ) (i n a : ℕ) → 2 * i + 1 < length w → rest w i (n + a) ≡ run (word w (2 * i)) (left-of w i n - a) (pairs-in (drop (2 * (i + 1)) w))
+rest-less w i n a h = rw (rest-is-run w i (n + a) h, left-after w i n a)
+
 later-twice : (n a k : ℕ) → later (n + a) k ≡ later n (later a k)
 later-twice n a zero = refl
 later-twice n a (suc k) = omega arith
@@ -67,6 +70,20 @@ module _ (old new : List ℤ) (s : Merge) (ho : 2 * s .«old_pair» + 1 < length
   abbrev same : Bool
   same = alike old (s .«old_pair») new (s .«new_pair»)
 
+  -- what is left of each where old's pair is passed
+  old-past-old : rest old (pass-old s a .«old_pair») (pass-old s a .«old_used») ≡ cut 0 (pairs-in (drop (2 * (s .«old_pair» + 1)) old))
+  old-past-old = rest-unused old (s .«old_pair» + 1)
+
+  new-past-old : rest new (pass-old s a .«new_pair») (pass-old s a .«new_used») ≡ run (word new (2 * s .«new_pair»)) (b - a) (pairs-in (drop (2 * (s .«new_pair» + 1)) new))
+  new-past-old = rest-less new (s .«new_pair») (s .«new_used») a hn
+
+  -- and where new's is
+  old-past-new : rest old (pass-new s b .«old_pair») (pass-new s b .«old_used») ≡ run (word old (2 * s .«old_pair»)) (a - b) (pairs-in (drop (2 * (s .«old_pair» + 1)) old))
+  old-past-new = rest-less old (s .«old_pair») (s .«old_used») b ho
+
+  new-past-new : rest new (pass-new s b .«new_pair») (pass-new s b .«new_used») ≡ cut 0 (pairs-in (drop (2 * (s .«new_pair» + 1)) new))
+  new-past-new = rest-unused new (s .«new_pair» + 1)
+
   -- what is found after a step
   abbrev after : Merge → ℕ
   after t = first-differing (rest old (t .«old_pair») (t .«old_used»)) (rest new (t .«new_pair») (t .«new_used»))
@@ -77,9 +94,8 @@ module _ (old new : List ℤ) (s : Merge) (ho : 2 * s .«old_pair» + 1 < length
       rw (
         rest-is-run old (s .«old_pair») (s .«old_used») ho,
         rest-is-run new (s .«new_pair») (s .«new_used») hn,
-        rest-is-run new (s .«new_pair») (s .«new_used» + a) hn,
-        left-after new (s .«new_pair») (s .«new_used») a,
-        rest-unused old (s .«old_pair» + 1),
+        old-past-old,
+        new-past-old,
         pass-shorter (word old (2 * s .«old_pair»)) (word new (2 * s .«new_pair»)) a b (pairs-in (drop (2 * (s .«old_pair» + 1)) old)) (pairs-in (drop (2 * (s .«new_pair» + 1)) new)) h,
       )
 
@@ -89,9 +105,8 @@ module _ (old new : List ℤ) (s : Merge) (ho : 2 * s .«old_pair» + 1 < length
       rw (
         rest-is-run old (s .«old_pair») (s .«old_used») ho,
         rest-is-run new (s .«new_pair») (s .«new_used») hn,
-        rest-is-run old (s .«old_pair») (s .«old_used» + b) ho,
-        left-after old (s .«old_pair») (s .«old_used») b,
-        rest-unused new (s .«new_pair» + 1),
+        old-past-new,
+        new-past-new,
         pass-shorter-new (word old (2 * s .«old_pair»)) (word new (2 * s .«new_pair»)) a b (pairs-in (drop (2 * (s .«old_pair» + 1)) old)) (pairs-in (drop (2 * (s .«new_pair» + 1)) new)) h,
       )
 

@@ -1,4 +1,5 @@
 -- reason_holds: an arm for each reason, and false for bytes that are none.
+use mathlib.Core.Path.{refl}
 use borrow.Author.Tests.{ne-eqb}
 use Rattle.offer_rules.specs.Gate.{reason-holds}
 use borrow.Author.Needs.{needs}
@@ -25,31 +26,31 @@ is-covered-requires-4 c κs = search needs
 
 returns : tie.Need-returns
 unfolding reason-holds
-returns c = rw (c .match .keys1, c .before .before .before .before .before .before .is-generation .ensures)
+returns c = rw (c .match .keys1, ← c .before .before .before .before .before .before .is-generation .ensures) refl
 
 returns-2 : tie.Need-returns-2
 unfolding reason-holds
-returns-2 c = rw (c .match .keys2, c .before .before .before .before .before .before .is-generation .ensures, c .before .before .before .before .is-covered .ensures)
+returns-2 c = rw (c .match .keys2, ← c .before .before .before .before .before .before .is-generation .ensures, ← c .before .before .before .before .is-covered .ensures) refl
 
 returns-3 : tie.Need-returns-3
 unfolding reason-holds
-returns-3 c = rw (c .match .keys3, c .before .before .before .is-covered2 .ensures)
+returns-3 c = rw (c .match .keys3, ← c .before .before .before .is-covered2 .ensures) refl
 
 returns-4 : tie.Need-returns-4
 unfolding reason-holds
-returns-4 c = rw (c .match .keys4, c .before .before .is-covered3 .ensures)
+returns-4 c = rw (c .match .keys4, ← c .before .before .is-covered3 .ensures) refl
 
 returns-5 : tie.Need-returns-5
 unfolding reason-holds
-returns-5 c = rw (c .match .keys5, c .before .is-covered4 .ensures)
+returns-5 c = rw (c .match .keys5, ← c .before .is-covered4 .ensures) refl
 
 returns-6 : tie.Need-returns-6
 unfolding reason-holds
-returns-6 c = rw (c .match .keys6, c .before .before .before .before .before .is-load .ensures, c .before .before .before .before .is-covered .ensures)
+returns-6 c = rw (c .match .keys6, ← c .before .before .before .before .before .is-load .ensures, ← c .before .before .before .before .is-covered .ensures) refl
 
 returns-7 : tie.Need-returns-7
 unfolding reason-holds
-returns-7 c = rw (c .match .keys7)
+returns-7 c = rw (c .match .keys7) refl
 
 returns-8 : tie.Need-returns-8
 unfolding reason-holds
