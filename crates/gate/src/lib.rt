@@ -1,0 +1,246 @@
+// Gate closure, refusal 17: prices compared tenth by tenth, the reasons, and the slot's next period.
+// Offers are lent as their pairs' words: price, quantity, price, quantity ..
+ghost use mathlib.Core.Path.{_≡_};
+ghost use Prim.Native.Nat.{_+_, _-_, _*_, _≤_, _<_};
+ghost use lib.ListN.{length};
+ghost use Rattle.offer_rules.specs.Numbers.{toNat, eqZ};
+ghost use Rattle.offer_rules.specs.Time.{next-period};
+ghost use Rattle.offer_rules.specs.Offer.{pairs-in, is-generation, is-load};
+ghost use Rattle.offer_rules.specs.Gate.{total-tenths, same-prices, covers, is-open, reason-holds, gate-refuses, standing-gate-refuses};
+ghost use Rattle.gate.specs.Differing.{first-differing};
+ghost use Rattle.gate.specs.Merging.{left-of, alike, differ, merged};
+ghost use Rattle.gate.specs.Meaning.{window-of, grounds-of};
+use units::Price;
+use units::Quantity;
+use units::nat;
+use units::price_at;
+use units::quantity_at;
+
+// "A variation is open when 30·P − now is 65 or more."
+const GATE_CLOSURE_MINUTES: u64 = 65;
+
+const PERIOD_MINUTES: u64 = 30;
+
+const SLOTS: u64 = 336;
+
+// A merge of two offers: the pair that it has come to in each, that pair's tenths that are passed, and all tenths passed.
+struct Merge {
+    pub old_pair: usize,
+    pub old_used: u64,
+    pub new_pair: usize,
+    pub new_used: u64,
+    pub passed: u64,
+}
+
+// The periods of an outage or a notice.
+pub struct Window {
+    pub first: i32,
+    pub last: i32,
+}
+
+// What a reason is held against: the facility's kind and outage window, and the three notices.
+pub struct Grounds {
+    pub kind: i32,
+    pub outage: Window,
+    pub surplus: Window,
+    pub shortfall: Window,
+    pub status: Window,
+}
+
+// "a quantity below 0, which only a damaged book holds, counts as 0"
+fn tenths_in(quantity: Quantity) -> u64
+    ensures { λ r. ⌜ (r ≡ toNat (quantity .0)) × (r < 2147483648) ⌝ }
+{
+    nat(quantity.0)
+}
+
+fn less(n: u64, used: u64) -> u64
+    ensures { λ r. ⌜ r ≡ n - used ⌝ }
+{
+    if used < n { n - used } else { 0 }
+}
+
+// The tenths of a pair that are left after those used.
+fn left_of(words: &[i32], pair: usize, used: u64) -> u64
+    requires { ⌜ (2 * pair + 1 < length (now words)) × (used < 2147483648) ⌝ }
+    ensures { λ r. ⌜ (r ≡ left-of (now (words .entry)) pair used) × (used + r < 2147483648) ⌝ }
+{
+    less(tenths_in(quantity_at(words, 2 * pair + 1)), used)
+}
+
+fn same_price(a: Price, b: Price) -> bool
+    ensures { λ r. ⌜ r ≡ eqZ (a .0) (b .0) ⌝ }
+{
+    a.0 == b.0
+}
+
+fn prices_alike(old: &[i32], i: usize, new: &[i32], j: usize) -> bool
+    requires { ⌜ (2 * i + 1 < length (now old)) × (2 * j + 1 < length (now new)) ⌝ }
+    ensures { λ r. ⌜ r ≡ alike (now (old .entry)) i (now (new .entry)) j ⌝ }
+{
+    same_price(price_at(old, 2 * i), price_at(new, 2 * j))
+}
+
+// Both pairs have tenths left, at two prices.
+fn pairs_differ(a: u64, b: u64, same: bool) -> bool
+    ensures { λ r. ⌜ r ≡ differ a b same ⌝ }
+{
+    ((0 < a) & (0 < b)) & !same
+}
+
+// A step passes the pair with fewer tenths left, a of old's or b of new's.
+fn merge_step(s: Merge, a: u64, b: u64) -> Merge
+    requires { ⌜ (s .«old_pair» < 9223372036854775808) × (s .«new_pair» < 9223372036854775808) × (s .«old_used» + a < 2147483648) × (s .«new_used» + b < 2147483648) × (s .passed < 9223372036854775808) ⌝ }
+    ensures { λ r. ⌜ r ≡ merged s a b ⌝ }
+{
+    if a <= b {
+        return Merge {
+            old_pair: s.old_pair + 1,
+            old_used: 0,
+            new_pair: s.new_pair,
+            new_used: s.new_used + a,
+            passed: s.passed + a,
+        };
+    }
+    Merge {
+        old_pair: s.old_pair,
+        old_used: s.old_used + b,
+        new_pair: s.new_pair + 1,
+        new_used: 0,
+        passed: s.passed + b,
+    }
+}
+
+// The lowest n from 1 to the smaller total whose tenth differs in price; 0 where none does.
+pub fn first_differing_tenth(old: &[i32], new: &[i32]) -> u64
+    requires { ⌜ (length (now old) ≤ 20) × (length (now new) ≤ 20) ⌝ }
+    ensures { λ r. ⌜ r ≡ first-differing (pairs-in (now (old .entry))) (pairs-in (now (new .entry))) ⌝ }
+{
+    let m = old.len() / 2;
+    let n = new.len() / 2;
+    let mut s = Merge {
+        old_pair: 0,
+        old_used: 0,
+        new_pair: 0,
+        new_used: 0,
+        passed: 0,
+    };
+    while s.old_pair < m && s.new_pair < n {
+        let a = left_of(old, s.old_pair, s.old_used);
+        let b = left_of(new, s.new_pair, s.new_used);
+        let same = prices_alike(old, s.old_pair, new, s.new_pair);
+        if pairs_differ(a, b, same) {
+            return s.passed + 1;
+        }
+        s = merge_step(s, a, b);
+    }
+    0
+}
+
+// "for every n from 1 to the smaller total, the n-th tenth .. has the same price in old and new"
+pub fn same_prices(old: &[i32], new: &[i32]) -> bool
+    requires { ⌜ (length (now old) ≤ 20) × (length (now new) ≤ 20) ⌝ }
+    ensures { λ r. ⌜ r ≡ same-prices (pairs-in (now (old .entry))) (pairs-in (now (new .entry))) ⌝ }
+{
+    first_differing_tenth(old, new) == 0
+}
+
+pub fn total_tenths(pairs: &[i32]) -> u64
+    requires { ⌜ length (now pairs) ≤ 20 ⌝ }
+    ensures { λ r. ⌜ (r ≡ total-tenths (pairs-in (now (pairs .entry)))) × (r ≤ 21474836480) ⌝ }
+{
+    let m = pairs.len() / 2;
+    let mut total: u64 = 0;
+    for i in 0..m {
+        total += tenths_in(quantity_at(pairs, 2 * i + 1));
+    }
+    total
+}
+
+fn is_covered(window: Window, period: u64) -> bool
+    requires { ⌜ period < 2147483648 ⌝ }
+    ensures { λ r. ⌜ r ≡ covers (window-of window) period ⌝ }
+{
+    let p = period as i32;
+    (window.first <= p) & (p <= window.last)
+}
+
+fn is_generation(g: Grounds) -> bool
+    ensures { λ r. ⌜ r ≡ is-generation (g .kind) ⌝ }
+{
+    g.kind == 1
+}
+
+fn is_load(g: Grounds) -> bool
+    ensures { λ r. ⌜ r ≡ is-load (g .kind) ⌝ }
+{
+    g.kind == 2
+}
+
+// "Inside that it needs a reason", with the totals of old and new.
+pub fn reason_holds(g: Grounds, service: u8, period: u64, old: u64, new: u64, reason: u8) -> bool
+    requires { ⌜ period < 2147483648 ⌝ }
+    ensures { λ r. ⌜ r ≡ reason-holds (grounds-of g) service period old new reason ⌝ }
+{
+    let generation = is_generation(g);
+    let load = is_load(g);
+    let outage = is_covered(g.outage, period);
+    let surplus = is_covered(g.surplus, period);
+    let shortfall = is_covered(g.shortfall, period);
+    let status = is_covered(g.status, period);
+    match reason {
+        1 => generation,
+        2 => generation & outage,
+        3 => ((service == 0) & surplus) & (new < old),
+        4 => shortfall & (old < new),
+        5 => status & (old < new),
+        6 => load & outage,
+        0 | 7..=255 => false,
+    }
+}
+
+fn is_before_closure(clock: u64, period: u64) -> bool
+    requires { ⌜ (clock ≤ 1000000000) × (period < 2147483648) ⌝ }
+    ensures { λ r. ⌜ r ≡ is-open clock period ⌝ }
+{
+    clock + GATE_CLOSURE_MINUTES <= PERIOD_MINUTES * period
+}
+
+// 17, of a variation; old holds no pairs where no offer is in force.
+pub fn gate_refuses(
+    clock: u64,
+    g: Grounds,
+    service: u8,
+    period: u64,
+    reason: u8,
+    old: &[i32],
+    new: &[i32],
+) -> bool
+    requires { ⌜ (clock ≤ 1000000000) × (period < 2147483648) × (length (now old) ≤ 20) × (length (now new) ≤ 20) ⌝ }
+    ensures { λ r. ⌜ r ≡ gate-refuses clock (grounds-of g) service period reason (pairs-in (now (old .entry))) (pairs-in (now (new .entry))) ⌝ }
+{
+    if is_before_closure(clock, period) {
+        return false;
+    }
+    let before = total_tenths(old);
+    let after = total_tenths(new);
+    let allowed = reason_holds(g, service, period, before, after, reason);
+    !(allowed & same_prices(old, new))
+}
+
+// "the slot's next period not yet begun"
+pub fn next_period(clock: u64, slot: u64) -> u64
+    requires { ⌜ (clock ≤ 1000000000) × (slot < 336) ⌝ }
+    ensures { λ r. ⌜ (r ≡ next-period clock slot) × (r < 2147483648) ⌝ }
+{
+    let first = clock / PERIOD_MINUTES + 1;
+    first + (slot + SLOTS - first % SLOTS) % SLOTS
+}
+
+// 17, of a standing offer over a held one.
+pub fn standing_gate_refuses(clock: u64, slot: u64) -> bool
+    requires { ⌜ (clock ≤ 1000000000) × (slot < 336) ⌝ }
+    ensures { λ r. ⌜ r ≡ standing-gate-refuses clock slot ⌝ }
+{
+    !is_before_closure(clock, next_period(clock, slot))
+}
