@@ -9,3 +9,4 @@ pub mod Opening
 pub mod EveryCall
 pub mod Striking
 pub mod ByNumber
+pub mod OneCall
