@@ -1,0 +1,68 @@
+use mathlib.Core.Path.{_≡_, ap, ap₂, _∙_}
+use native.Mathlib.Omega.{arith}
+use mir.Syntax.{w32}
+use mir.Facts.{toZ-ofZ, toZ-pos}
+use Rattle.offer_rules.specs.Numbers.{draw, _then_, toNat}
+use Rattle.book_rules.specs.Record.{record-test, record-number, sizes-ok}
+use borrow.Author.Needs.{needs}
+use Rattle.record.proofs.bilzhaan_record_test.Statement.{statement}
+use Rattle.record.proofs.bilzhaan_record_test.Tie as tie
+use Rattle.record.proofs.bilzhaan_record_test.Reads as reads
+use Rattle.record.proofs.bilzhaan_record_test.Lts as lts
+use Rattle.record.proofs.is_sized.Reads as is-sized-reads
+use Rattle.record.proofs.record_number.Reads as record-number-reads
+use Rattle.units.proofs.nat.Reads as nat-reads
+
+-- src/lib.rt:184:9
+is-sized-requires : tie.Need-is-sized-requires
+is-sized-requires c κs = search needs
+
+sized : (c : tie.After-is-sized) → c .is-sized .result ≡ sizes-ok (c .before .before .args .facilities) (c .before .before .args .services)
+sized c =
+    c .is-sized .ensures
+    ∙ ap₂ sizes-ok (toZ-ofZ {w = w32} (c .before .before .fits .facilities)) (toZ-ofZ {w = w32} (c .before .before .fits .services))
+
+-- src/lib.rt:185:9
+returns : tie.Need-returns
+unfolding record-test draw _then_
+returns c =
+    let s = c .before .before .before in
+    rw (← sized (c .before), c .if1 .taken)
+
+-- src/lib.rt:187:26
+nat-requires : tie.Need-nat-requires
+nat-requires c κs = search needs
+
+-- src/lib.rt:187:43
+nat-requires-2 : tie.Need-nat-requires-2
+nat-requires-2 c κs = search needs
+
+-- src/lib.rt:187:5
+record-number-requires : tie.Need-record-number-requires
+record-number-requires c κs = search needs
+
+-- src/lib.rt:187:5
+cast-result : tie.Need-cast-result
+cast-result c = search needs
+
+-- src/lib.rt:180:1
+returns-2 : tie.Need-returns-2
+unfolding record-test draw _then_
+returns-2 c =
+    let s = c .before .before .before .before .before .before in
+    let e : c .record-number .result ≡ record-number (s .args .bytes .now) (toNat (s .args .facilities)) (toNat (s .args .services)) =
+    c .record-number .ensures .0
+    ∙ ap₂ (record-number (s .args .bytes .now)) (c .before .before .nat .ensures .0 ∙ ap toNat (toZ-ofZ {w = w32} (s .fits .facilities))) (c .before .nat2 .ensures .0 ∙ ap toNat (toZ-ofZ {w = w32} (s .fits .services))) in
+    rw (toZ-pos w32 {n = c .record-number .result} (omega arith), e, ← sized (c .before .before .before .before), c .before .before .before .if1 .left)
+
+pub bilzhaan-record-test-spec : {M : Type 1} → statement M
+bilzhaan-record-test-spec =
+    tie.close
+    (tie.spec
+    is-sized-requires
+    returns
+    nat-requires
+    nat-requires-2
+    record-number-requires
+    cast-result
+    returns-2)

@@ -1,0 +1,17 @@
+use lib.IntN.{pos}
+use mir.Syntax.{w32}
+use mir.Facts.{sfits-lit, toZ-ofZ}
+use Rattle.book_rules.specs.Record.{sizes-ok}
+use Rattle.units.proofs.Signs.{eqb-bits}
+use Rattle.record.proofs.is_sized.Statement.{statement}
+use Rattle.record.proofs.is_sized.Tie as tie
+use Rattle.record.proofs.is_sized.Reads as reads
+use Rattle.record.proofs.is_sized.Lts as lts
+
+-- src/lib.rt:173:1
+returns : tie.Need-returns
+unfolding sizes-ok
+returns c = rw (toZ-ofZ {w = w32} (c .fits .f), eqb-bits (c .args .s) (pos 1) (c .fits .s) (sfits-lit tt), eqb-bits (c .args .s) (pos 5) (c .fits .s) (sfits-lit tt))
+
+pub is-sized-spec : {M : Type 1} → statement M
+is-sized-spec = tie.close (tie.spec returns)
