@@ -1,12 +1,13 @@
 // A record's bytes: its words, the bytes that its call uses, and refusals 2, 3 and 4 of it.
 // The gateway's C program calls bilzhaan_record_test.
 ghost use mathlib.Core.Path.{_≡_};
-ghost use Prim.Native.Nat.{_+_, _*_, _≤_, _<_};
+ghost use Prim.Native.Nat.{_+_, _*_, _-_, _≤_, _<_};
 ghost use lib.IntN.{pos};
 ghost use lib.ListN.{length};
 ghost use Rattle.book_rules.specs.Record.{byte, signed, word-at, words-at, offer-in, capability-in};
 ghost use Rattle.book_rules.specs.Record.{between, used-by-offer, used, is-record, outside, has-stray};
 ghost use Rattle.book_rules.specs.Record.{record-number, sizes-ok, record-test};
+ghost use Rattle.record.specs.Gaps.{any-set, any-set-by-offer};
 use units::first;
 use units::nat;
 
@@ -144,18 +145,51 @@ fn is_outside(bytes: &[u8], facilities: u64, services: u64) -> bool
         | (is_used(call, service, 7) & (services <= wide(service)))
 }
 
-// 4 "an unused byte not zero"
-fn is_stray(bytes: &[u8]) -> bool
+// Whether a byte from `from` to before `to` is not zero.
+fn is_any_set(bytes: &[u8], from: usize, to: usize) -> bool
+    requires { ⌜ (from ≤ to) × (to ≤ 112) × (length (now bytes) ≡ 112) ⌝ }
+    ensures { λ r. ⌜ r ≡ any-set (now (bytes .entry)) from (to - from) ⌝ }
+{
+    let mut seen = false;
+    for i in from..to {
+        seen = seen | (bytes[i] != 0);
+    }
+    seen
+}
+
+// Byte 13, and what an offer doesn't use from byte 14 on.
+fn is_any_set_by_offer(bytes: &[u8], service: u8) -> bool
+    requires { ⌜ length (now bytes) ≡ 112 ⌝ }
+    ensures { λ r. ⌜ r ≡ any-set-by-offer (now (bytes .entry)) service ⌝ }
+{
+    if service == 0 {
+        is_any_set(bytes, 13, 16) | is_any_set(bytes, 24, 32)
+    } else if service < 4 {
+        is_any_set(bytes, 13, 14) | (is_any_set(bytes, 16, 32) | is_any_set(bytes, 72, 112))
+    } else {
+        is_any_set(bytes, 13, 32) | is_any_set(bytes, 72, 112)
+    }
+}
+
+// 4 "an unused byte not zero": the gaps between the bytes that the call uses.
+fn has_stray(bytes: &[u8]) -> bool
     requires { ⌜ length (now bytes) ≡ 112 ⌝ }
     ensures { λ r. ⌜ r ≡ has-stray (now (bytes .entry)) ⌝ }
 {
     let call = bytes[5];
     let service = bytes[7];
-    let mut stray = false;
-    for i in 6..112usize {
-        stray = stray | ((bytes[i] != 0) & !is_used(call, service, i));
+    match call {
+        1 => is_any_set(bytes, 6, 24) | is_any_set(bytes, 28, 112),
+        2 => is_any_set(bytes, 7, 32) | is_any_set(bytes, 100, 112),
+        3 => is_any_set(bytes, 12, 13) | is_any_set_by_offer(bytes, service),
+        4 => is_any_set_by_offer(bytes, service),
+        5 => is_any_set(bytes, 7, 24) | is_any_set(bytes, 32, 112),
+        6 => is_any_set(bytes, 6, 12) | (is_any_set(bytes, 13, 24) | is_any_set(bytes, 32, 112)),
+        7 => is_any_set(bytes, 6, 12) | is_any_set(bytes, 13, 112),
+        8 => is_any_set(bytes, 12, 112),
+        9 => is_any_set(bytes, 6, 7) | is_any_set(bytes, 12, 112),
+        0 | 10..=255 => is_any_set(bytes, 6, 112),
     }
-    stray
 }
 
 // 2, 3, 4 or 0, for F facilities and S services.
@@ -165,7 +199,7 @@ pub fn record_number(bytes: &[u8], facilities: u64, services: u64) -> u8
     if bytes.len() != 112 {
         return 2;
     }
-    let stray = first(is_stray(bytes), 4, 0);
+    let stray = first(has_stray(bytes), 4, 0);
     first(!is_headed(bytes), 2, first(is_outside(bytes, facilities, services), 3, stray))
 }
 

@@ -12,7 +12,7 @@ use Rattle.record.proofs.record_number.Reads as reads
 use Rattle.record.proofs.record_number.Lts as lts
 use Rattle.record.proofs.is_headed.Reads as is-headed-reads
 use Rattle.record.proofs.is_outside.Reads as is-outside-reads
-use Rattle.record.proofs.is_stray.Reads as is-stray-reads
+use Rattle.record.proofs.has_stray.Reads as has-stray-reads
 use Rattle.units.proofs.first.Reads as first-reads
 
 -- src/lib.rt:166:9
@@ -21,8 +21,8 @@ unfolding record-number is-record draw _then_
 returns c = (rw (ne-eqb (length (c .before .before .args .bytes .now)) 112 (c .if1 .taken)), search needs)
 
 -- src/lib.rt:168:23
-is-stray-requires : tie.Need-is-stray-requires
-is-stray-requires c κs = search needs
+has-stray-requires : tie.Need-has-stray-requires
+has-stray-requires c κs = search needs
 
 -- src/lib.rt:168:9
 first-requires : tie.Need-first-requires
@@ -52,7 +52,7 @@ returns-2 c =
     let b = s .args .bytes .now in
     let o : Bool = outside b (s .args .facilities) (s .args .services) in
     let e : c .first3 .result ≡ cond (not (is-record b)) 2 (cond o 3 (cond (has-stray b) 4 0)) =
-    rw (c .first3 .ensures, c .before .first2 .ensures, c .before .before .is-outside .ensures, c .before .before .before .is-headed .ensures, c .before .before .before .before .first .ensures, c .before .before .before .before .before .is-stray .ensures) in
+    rw (c .first3 .ensures, c .before .first2 .ensures, c .before .before .is-outside .ensures, c .before .before .before .is-headed .ensures, c .before .before .before .before .first .ensures, c .before .before .before .before .before .has-stray .ensures) in
     (e ∙ sym (drawn-in-order (not (is-record b)) o (has-stray b)), rw e (drawn-at-most-4 (not (is-record b)) o (has-stray b)))
 
 pub record-number-spec : {M : Type 1} → statement M
@@ -60,7 +60,7 @@ record-number-spec =
     tie.close
     (tie.spec
     returns
-    is-stray-requires
+    has-stray-requires
     first-requires
     is-headed-requires
     is-outside-requires
