@@ -2,4 +2,5 @@
 pub mod TwosComplement
 pub mod WordLists
 pub mod StrayBytes
+pub mod OfferBytes
 pub mod NumbersDrawn

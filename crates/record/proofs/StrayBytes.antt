@@ -1,22 +1,17 @@
--- A record's stray bytes by the gaps between the bytes that its call uses.
+-- A record's stray bytes are those that are not zero in the gaps between the bytes that its call uses.
+-- Whether gaps are those of a call is computed, by `fit`.
 use mathlib.Core.Path.{_≡_, refl, sym, ap, _∙_}
-use mathlib.Core.Bool.{Bool, true, false, cond, not, _&&_, _||_}
+use mathlib.Core.Bool.{Bool, true, false, not, _&&_, _||_}
 use mathlib.Core.List.{List, [], _∷_}
 use Prim.Native.Nat.{ℕ, zero, suc, _+_, _-_, _<_, _≤_}
 use native.Mathlib.Omega.{arith}
-use lib.Dec.{eqb, ltb}
+use lib.Dec.{eqb, leb}
 use lib.ListN.{length, getD, drop, drop-of-length-le}
 use lib.Seq.{drop-cons}
-use borrow.Author.Tests.{eqb-true, not-true}
+use borrow.Author.Tests.{leb-true, not-true}
 use Rattle.offer_rules.proofs.Drawn.{and-left, and-right}
-use Rattle.book_rules.specs.Record.{any-stray, between, used-by-offer}
-use Rattle.record.specs.Gaps.{any-set, any-set-by-offer}
-
--- a choice without a branch
-pub chosen : (t x y : Bool) → ((t && x) || (not t && y)) ≡ cond t x y
-chosen true true y = refl
-chosen true false y = refl
-chosen false x y = refl
+use Rattle.book_rules.specs.Record.{any-stray}
+use Rattle.record.specs.Gaps.{any-set}
 
 or-assoc : (x y z : Bool) → ((x || y) || z) ≡ (x || (y || z))
 or-assoc true y z = refl
@@ -25,6 +20,14 @@ or-assoc false y z = refl
 or-none : (x : Bool) → (x || false) ≡ x
 or-none true = refl
 or-none false = refl
+
+and-true : (x : Bool) → (x && true) ≡ x
+and-true true = refl
+and-true false = refl
+
+and-false : (x : Bool) → (x && false) ≡ false
+and-false true = refl
+and-false false = refl
 
 -- ---- a loop over the bytes from i to before z
 
@@ -40,14 +43,14 @@ pub set-end : (b : List ℕ) (i z : ℕ) (seen : Bool) → z ≤ i → (seen || 
 unfolding any-set
 set-end b i z seen h = let n : z - i ≡ 0 = omega arith in rw n (or-none seen)
 
--- ---- runs of bytes: so many that are not used, then so many that are
+-- ---- gaps
 
-pub record Run : Type 0 where
-  pub unused : ℕ
-  pub used : ℕ
+pub record Gap : Type 0 where
+  pub start : ℕ
+  pub count : ℕ
 
-abbrev pub run : ℕ → ℕ → Run
-run n m = record { unused = n; used = m }
+abbrev pub gap : ℕ → ℕ → Gap
+gap i n = record { start = i; count = n }
 
 unfoldable pub all-used : (ℕ → Bool) → ℕ → ℕ → Bool
 all-used f i zero = true
@@ -57,107 +60,99 @@ unfoldable pub all-unused : (ℕ → Bool) → ℕ → ℕ → Bool
 all-unused f i zero = true
 all-unused f i (suc n) = not (f i) && all-unused f (suc i) n
 
--- the runs from byte i on are those of f, to the last byte
-unfoldable pub follow : (ℕ → Bool) → ℕ → List Run → Bool
-follow f i [] = eqb i 112
-follow f i (r ∷ l) = (all-unused f i (r .unused) && all-used f (i + r .unused) (r .used)) && follow f (i + r .unused + r .used) l
+-- the gaps, in order, are what f doesn't use from byte i to before z
+unfoldable pub fit : (ℕ → Bool) → ℕ → ℕ → List Gap → Bool
+fit f i z [] = leb i z && all-used f i (z - i)
+fit f i z (q ∷ l) = ((leb i (q .start) && all-used f i (q .start - i)) && all-unused f (q .start) (q .count)) && fit f (q .start + q .count) z l
 
-unfoldable pub set-in-gaps : List ℕ → ℕ → List Run → Bool
-set-in-gaps b i [] = false
-set-in-gaps b i (r ∷ []) = any-set b i (r .unused)
-set-in-gaps b i (r ∷ (q ∷ l)) = any-set b i (r .unused) || set-in-gaps b (i + r .unused + r .used) (q ∷ l)
+unfoldable pub set-in-gaps : List ℕ → List Gap → Bool
+set-in-gaps b [] = false
+set-in-gaps b (q ∷ []) = any-set b (q .start) (q .count)
+set-in-gaps b (q ∷ (r ∷ l)) = any-set b (q .start) (q .count) || set-in-gaps b (r ∷ l)
 
-and-true : (x : Bool) → (x && true) ≡ x
-and-true true = refl
-and-true false = refl
+-- or a later byte is stray
+unfoldable pub set-or : List ℕ → List Gap → Bool → Bool
+set-or b [] later = later
+set-or b (q ∷ l) later = any-set b (q .start) (q .count) || set-or b l later
 
-and-false : (x : Bool) → (x && false) ≡ false
-and-false true = refl
-and-false false = refl
+set-or-none : (b : List ℕ) (l : List Gap) → set-or b l false ≡ set-in-gaps b l
+unfolding set-or set-in-gaps
+set-or-none b [] = refl
+set-or-none b (q ∷ []) = or-none (any-set b (q .start) (q .count))
+set-or-none b (q ∷ (r ∷ l)) = ap (λ (y : Bool). any-set b (q .start) (q .count) || y) (set-or-none b (r ∷ l))
 
-follow-ends : (f : ℕ → Bool) (i : ℕ) (l : List Run) → follow f i l ≡ true → i ≤ 112
-unfolding follow
-follow-ends f i [] e = omega (arith, eqb-true i 112 e)
-follow-ends f i (r ∷ l) e =
-    let k = follow-ends f (i + r .unused + r .used) l (and-right (all-unused f i (r .unused) && all-used f (i + r .unused) (r .used)) (follow f (i + r .unused + r .used) l) e) in
+fit-ends : (f : ℕ → Bool) (i z : ℕ) (l : List Gap) → fit f i z l ≡ true → i ≤ z
+unfolding fit
+fit-ends f i z [] e = leb-true i z (and-left (leb i z) (all-used f i (z - i)) e)
+fit-ends f i z (q ∷ l) e =
+    let u = leb i (q .start) && all-used f i (q .start - i) in
+    let t = u && all-unused f (q .start) (q .count) in
+    let h = and-left t (fit f (q .start + q .count) z l) e in
+    let a = leb-true i (q .start) (and-left (leb i (q .start)) (all-used f i (q .start - i)) (and-left u (all-unused f (q .start) (q .count)) h)) in
+    let k = fit-ends f (q .start + q .count) z l (and-right t (fit f (q .start + q .count) z l) e) in
     omega arith
 
--- f as the record's definition has it, g as it computes for one call
-module _ (f g : ℕ → Bool) (alike : (i : ℕ) → f i ≡ g i) (b : List ℕ) where
-  pass-used : (n i : ℕ) → i + n ≤ length b → all-used g i n ≡ true → any-stray f i (drop i b) ≡ any-stray f (i + n) (drop (i + n) b)
+-- f is the rule of a call, g the same up to byte z, computing
+module _ (f g : ℕ → Bool) (b : List ℕ) (z : ℕ) (whole : z ≤ length b) (alike : (i : ℕ) → i < z → f i ≡ g i) where
+  abbrev from : ℕ → Bool
+  from i = any-stray f i (drop i b)
+
+  pass-used : (n i : ℕ) → i + n ≤ z → all-used g i n ≡ true → from i ≡ from (i + n)
   unfolding all-used any-stray
   pass-used zero i h e = let k : i + 0 ≡ i = omega arith in rw k
   pass-used (suc n) i h e =
-      let u : f i ≡ true = alike i ∙ and-left (g i) (all-used g (suc i) n) e in
+      let u : f i ≡ true = alike i (omega arith) ∙ and-left (g i) (all-used g (suc i) n) e in
       let k : suc i + n ≡ i + suc n = omega arith in
-      let s : any-stray f i (drop i b) ≡ any-stray f (suc i) (drop (suc i) b) =
-      rw (drop-cons b i 0 (omega arith), u, and-false (not (eqb (getD b i 0) 0))) in
-      s
-      ∙ pass-used n (suc i) (omega arith) (and-right (g i) (all-used g (suc i) n) e)
-      ∙ ap (λ (m : ℕ). any-stray f m (drop m b)) k
+      let s : from i ≡ from (suc i) = rw (drop-cons b i 0 (omega arith), u, and-false (not (eqb (getD b i 0) 0))) in
+      s ∙ pass-used n (suc i) (omega arith) (and-right (g i) (all-used g (suc i) n) e) ∙ ap from k
 
-  pass-unused : (n i : ℕ) → i + n ≤ length b → all-unused g i n ≡ true
-      → any-stray f i (drop i b) ≡ (any-set b i n || any-stray f (i + n) (drop (i + n) b))
+  pass-unused : (n i : ℕ) → i + n ≤ z → all-unused g i n ≡ true → from i ≡ (any-set b i n || from (i + n))
   unfolding all-unused any-stray any-set
   pass-unused zero i h e = let k : i + 0 ≡ i = omega arith in rw k
   pass-unused (suc n) i h e =
-      let u : f i ≡ false = alike i ∙ not-true (g i) (and-left (not (g i)) (all-unused g (suc i) n) e) in
+      let u : f i ≡ false = alike i (omega arith) ∙ not-true (g i) (and-left (not (g i)) (all-unused g (suc i) n) e) in
       let k : suc i + n ≡ i + suc n = omega arith in
       let x : Bool = not (eqb (getD b i 0) 0) in
-      let s : any-stray f i (drop i b) ≡ (x || any-stray f (suc i) (drop (suc i) b)) = rw (drop-cons b i 0 (omega arith), u, and-true x) in
+      let s : from i ≡ (x || from (suc i)) = rw (drop-cons b i 0 (omega arith), u, and-true x) in
       s
       ∙ ap (λ (y : Bool). x || y) (pass-unused n (suc i) (omega arith) (and-right (not (g i)) (all-unused g (suc i) n) e))
-      ∙ sym (or-assoc x (any-set b (suc i) n) (any-stray f (suc i + n) (drop (suc i + n) b)))
-      ∙ ap (λ (m : ℕ). (x || any-set b (suc i) n) || any-stray f m (drop m b)) k
+      ∙ sym (or-assoc x (any-set b (suc i) n) (from (suc i + n)))
+      ∙ ap (λ (m : ℕ). (x || any-set b (suc i) n) || from m) k
 
-  pass-run : (i : ℕ) (r : Run) → i + r .unused + r .used ≤ length b → (all-unused g i (r .unused) && all-used g (i + r .unused) (r .used)) ≡ true
-      → any-stray f i (drop i b) ≡ (any-set b i (r .unused) || any-stray f (i + r .unused + r .used) (drop (i + r .unused + r .used) b))
-  pass-run i r h e =
-      pass-unused (r .unused) i (omega arith) (and-left (all-unused g i (r .unused)) (all-used g (i + r .unused) (r .used)) e)
-      ∙ ap (λ (y : Bool). any-set b i (r .unused) || y)
-      (pass-used (r .used) (i + r .unused) h (and-right (all-unused g i (r .unused)) (all-used g (i + r .unused) (r .used)) e))
+  pub stray-or-later : (i : ℕ) (l : List Gap) → fit g i z l ≡ true → from i ≡ set-or b l (from z)
+  unfolding fit set-or
+  stray-or-later i [] e =
+      let h = leb-true i z (and-left (leb i z) (all-used g i (z - i)) e) in
+      let k : i + (z - i) ≡ z = omega arith in
+      pass-used (z - i) i (omega arith) (and-right (leb i z) (all-used g i (z - i)) e) ∙ ap from k
+  stray-or-later i (q ∷ l) e =
+      let a = q .start in
+      let n = q .count in
+      let u = leb i a && all-used g i (a - i) in
+      let t = u && all-unused g a n in
+      let ht = and-left t (fit g (a + n) z l) e in
+      let hu = and-left u (all-unused g a n) ht in
+      let hl = and-right t (fit g (a + n) z l) e in
+      let le = leb-true i a (and-left (leb i a) (all-used g i (a - i)) hu) in
+      let end = fit-ends g (a + n) z l hl in
+      let k : i + (a - i) ≡ a = omega arith in
+      pass-used (a - i) i (omega arith) (and-right (leb i a) (all-used g i (a - i)) hu)
+      ∙ ap from k
+      ∙ pass-unused n a (omega arith) (and-right u (all-unused g a n) ht)
+      ∙ ap (λ (y : Bool). any-set b a n || y) (stray-or-later (a + n) l hl)
 
-  none-past : (i : ℕ) → length b ≤ i → any-stray f i (drop i b) ≡ false
-  unfolding any-stray
-  none-past i h = rw (drop-of-length-le b h)
+none-past : (f : ℕ → Bool) (b : List ℕ) (i : ℕ) → length b ≤ i → any-stray f i (drop i b) ≡ false
+unfolding any-stray
+none-past f b i h = rw (drop-of-length-le b h)
 
-  -- stray bytes are those that are not zero in the gaps
-  pub stray-in-gaps : (i : ℕ) (l : List Run) → length b ≡ 112 → follow g i l ≡ true → any-stray f i (drop i b) ≡ set-in-gaps b i l
-  unfolding follow set-in-gaps
-  stray-in-gaps i [] n e = none-past i (omega (arith, eqb-true i 112 e))
-  stray-in-gaps i (r ∷ []) n e =
-      let z = i + r .unused + r .used in
-      let t = all-unused g i (r .unused) && all-used g (i + r .unused) (r .used) in
-      let k = and-right t (eqb z 112) e in
-      pass-run i r (omega (arith, eqb-true z 112 k)) (and-left t (eqb z 112) e)
-      ∙ ap (λ (y : Bool). any-set b i (r .unused) || y) (stray-in-gaps z [] n k)
-      ∙ or-none (any-set b i (r .unused))
-  stray-in-gaps i (r ∷ (q ∷ l)) n e =
-      let z = i + r .unused + r .used in
-      let t = all-unused g i (r .unused) && all-used g (i + r .unused) (r .used) in
-      let k = and-right t (follow g z (q ∷ l)) e in
-      pass-run i r (omega (arith, follow-ends g z (q ∷ l) k)) (and-left t (follow g z (q ∷ l)) e)
-      ∙ ap (λ (y : Bool). any-set b i (r .unused) || y) (stray-in-gaps z (q ∷ l) n k)
+-- to the last byte
+pub stray-in-gaps : (f g : ℕ → Bool) (b : List ℕ) (i : ℕ) (l : List Gap) → length b ≡ 112 → ((j : ℕ) → f j ≡ g j) → fit g i 112 l ≡ true
+    → set-in-gaps b l ≡ any-stray f i (drop i b)
+stray-in-gaps f g b i l n alike e =
+    sym (stray-or-later f g b 112 (omega arith) (λ j h. alike j) i l e ∙ ap (set-or b l) (none-past f b 112 (omega arith)) ∙ set-or-none b l)
 
--- ---- offers, which use bytes by the service
-
-module _ (f : ℕ → Bool) (s : ℕ) (b : List ℕ) (n : length b ≡ 112) where
-  -- after bytes 6 to 11, as in a standing offer
-  pub stray-of-standing : ((i : ℕ) → f i ≡ (between 6 11 i || used-by-offer s i)) → any-stray f 6 (drop 6 b) ≡ (any-set b 12 1 || any-set-by-offer b s)
-  unfolding used-by-offer any-set-by-offer follow set-in-gaps all-used all-unused any-set
-  stray-of-standing h = go (eqb s 0) (ltb s 4) refl refl
-    where
-      go : (e l : Bool) → eqb s 0 ≡ e → ltb s 4 ≡ l → any-stray f 6 (drop 6 b) ≡ (any-set b 12 1 || any-set-by-offer b s)
-      go true l p q = rw p (stray-in-gaps f (λ i. between 6 11 i || (between 16 23 i || between 32 111 i)) (λ i. rw (h i, p)) b 6 (run 0 6 ∷ run 1 0 ∷ run 3 8 ∷ run 8 80 ∷ []) n refl)
-      go false true p q = rw (p, q) (stray-in-gaps f (λ i. between 6 11 i || (between 14 15 i || between 32 71 i)) (λ i. rw (h i, p, q)) b 6 (run 0 6 ∷ run 1 0 ∷ run 1 2 ∷ run 16 40 ∷ run 40 0 ∷ []) n refl)
-      go false false p q = rw (p, q) (stray-in-gaps f (λ i. between 6 11 i || between 32 71 i) (λ i. rw (h i, p, q)) b 6 (run 0 6 ∷ run 1 0 ∷ run 19 40 ∷ run 40 0 ∷ []) n refl)
-
-  -- after bytes 6 to 12, as in an offer variation
-  pub stray-of-variation : ((i : ℕ) → f i ≡ (between 6 12 i || used-by-offer s i)) → any-stray f 6 (drop 6 b) ≡ any-set-by-offer b s
-  unfolding used-by-offer any-set-by-offer follow set-in-gaps all-used all-unused any-set
-  stray-of-variation h = go (eqb s 0) (ltb s 4) refl refl
-    where
-      go : (e l : Bool) → eqb s 0 ≡ e → ltb s 4 ≡ l → any-stray f 6 (drop 6 b) ≡ any-set-by-offer b s
-      go true l p q = rw p (stray-in-gaps f (λ i. between 6 12 i || (between 16 23 i || between 32 111 i)) (λ i. rw (h i, p)) b 6 (run 0 7 ∷ run 3 8 ∷ run 8 80 ∷ []) n refl)
-      go false true p q = rw (p, q) (stray-in-gaps f (λ i. between 6 12 i || (between 14 15 i || between 32 71 i)) (λ i. rw (h i, p, q)) b 6 (run 0 7 ∷ run 1 2 ∷ run 16 40 ∷ run 40 0 ∷ []) n refl)
-      go false false p q = rw (p, q) (stray-in-gaps f (λ i. between 6 12 i || between 32 71 i) (λ i. rw (h i, p, q)) b 6 (run 0 7 ∷ run 19 40 ∷ run 40 0 ∷ []) n refl)
+-- two rules that are alike from byte i on
+pub stray-alike : (f g : ℕ → Bool) (i : ℕ) (l : List ℕ) → ((j : ℕ) → i ≤ j → f j ≡ g j) → any-stray f i l ≡ any-stray g i l
+unfolding any-stray
+stray-alike f g i [] h = refl
+stray-alike f g i (x ∷ l) h = rw (h i (omega arith), stray-alike f g (suc i) l (λ j k. h j (omega arith)))

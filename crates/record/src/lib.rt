@@ -3,23 +3,23 @@
 ghost use mathlib.Core.Path.{_≡_};
 ghost use Prim.Native.Nat.{_+_, _*_, _-_, _≤_, _<_};
 ghost use lib.IntN.{pos};
-ghost use lib.ListN.{length};
+ghost use lib.ListN.{length, drop};
 ghost use Rattle.book_rules.specs.Record.{byte, signed, word-at, words-at, offer-in, capability-in};
-ghost use Rattle.book_rules.specs.Record.{between, used-by-offer, used, is-record, outside, has-stray};
+ghost use Rattle.book_rules.specs.Record.{between, used-by-offer, used, is-record, outside, any-stray, has-stray};
 ghost use Rattle.book_rules.specs.Record.{record-number, sizes-ok, record-test};
-ghost use Rattle.record.specs.Gaps.{any-set, any-set-by-offer};
+ghost use Rattle.record.specs.Gaps.{any-set};
 use units::first;
 use units::nat;
 
 // Two bytes, most significant first.
-fn pair(a: u8, b: u8) -> u32
+fn join_two(a: u8, b: u8) -> u32
     ensures { λ r. ⌜ (r ≡ a * 256 + b) × (r < 65536) ⌝ }
 {
     a as u32 * 256 + b as u32
 }
 
 // Four bytes, most significant first.
-fn join(a: u8, b: u8, c: u8, d: u8) -> u32
+fn join_four(a: u8, b: u8, c: u8, d: u8) -> u32
     ensures { λ r. ⌜ r ≡ ((a * 256 + b) * 256 + c) * 256 + d ⌝ }
 {
     ((a as u32 * 256 + b as u32) * 256 + c as u32) * 256 + d as u32
@@ -41,7 +41,7 @@ pub fn word_at(bytes: &[u8], at: usize) -> i32
     requires { ⌜ at + 4 ≤ length (now bytes) ⌝ }
     ensures { λ r. ⌜ r ≡ word-at (now (bytes .entry)) at ⌝ }
 {
-    signed_from(join(bytes[at], bytes[at + 1], bytes[at + 2], bytes[at + 3]))
+    signed_from(join_four(bytes[at], bytes[at + 1], bytes[at + 2], bytes[at + 3]))
 }
 
 // 16 bits, not signed: the proportion, "0 to 65,535".
@@ -49,7 +49,7 @@ pub fn half_at(bytes: &[u8], at: usize) -> i32
     requires { ⌜ at + 2 ≤ length (now bytes) ⌝ }
     ensures { λ r. ⌜ r ≡ pos (byte (now (bytes .entry)) at * 256 + byte (now (bytes .entry)) (at + 1)) ⌝ }
 {
-    pair(bytes[at], bytes[at + 1]) as i32
+    join_two(bytes[at], bytes[at + 1]) as i32
 }
 
 // Fills words from byte at on.
@@ -96,9 +96,11 @@ fn is_between(a: usize, z: usize, i: usize) -> bool
 fn is_used_by_offer(service: u8, i: usize) -> bool
     ensures { λ r. ⌜ r ≡ used-by-offer service i ⌝ }
 {
-    let energy = is_between(16, 23, i) | is_between(32, 111, i);
-    let other = ((service < 4) & is_between(14, 15, i)) | is_between(32, 71, i);
-    ((service == 0) & energy) | (!(service == 0) & other)
+    if service == 0 {
+        is_between(16, 23, i) | is_between(32, 111, i)
+    } else {
+        ((service < 4) & is_between(14, 15, i)) | is_between(32, 71, i)
+    }
 }
 
 // "The nine calls and what they use", from byte 6 on.
@@ -120,7 +122,7 @@ pub fn is_used(call: u8, service: u8, i: usize) -> bool
 }
 
 // 2 "not 112 bytes, or mark, version or call wrong", of 112 bytes.
-fn is_headed(bytes: &[u8]) -> bool
+fn is_record(bytes: &[u8]) -> bool
     requires { ⌜ length (now bytes) ≡ 112 ⌝ }
     ensures { λ r. ⌜ r ≡ is-record (now (bytes .entry)) ⌝ }
 {
@@ -146,7 +148,7 @@ fn is_outside(bytes: &[u8], facilities: u64, services: u64) -> bool
 }
 
 // Whether a byte from `from` to before `to` is not zero.
-fn is_any_set(bytes: &[u8], from: usize, to: usize) -> bool
+fn any_set(bytes: &[u8], from: usize, to: usize) -> bool
     requires { ⌜ (from ≤ to) × (to ≤ 112) × (length (now bytes) ≡ 112) ⌝ }
     ensures { λ r. ⌜ r ≡ any-set (now (bytes .entry)) from (to - from) ⌝ }
 {
@@ -157,17 +159,17 @@ fn is_any_set(bytes: &[u8], from: usize, to: usize) -> bool
     seen
 }
 
-// Byte 13, and what an offer doesn't use from byte 14 on.
-fn is_any_set_by_offer(bytes: &[u8], service: u8) -> bool
+// 4 of an offer's call, from byte 13 on.
+fn has_stray_beside_offer(bytes: &[u8], service: u8) -> bool
     requires { ⌜ length (now bytes) ≡ 112 ⌝ }
-    ensures { λ r. ⌜ r ≡ any-set-by-offer (now (bytes .entry)) service ⌝ }
+    ensures { λ r. ⌜ r ≡ any-stray (used-by-offer service) 13 (drop 13 (now (bytes .entry))) ⌝ }
 {
     if service == 0 {
-        is_any_set(bytes, 13, 16) | is_any_set(bytes, 24, 32)
+        any_set(bytes, 13, 16) | any_set(bytes, 24, 32)
     } else if service < 4 {
-        is_any_set(bytes, 13, 14) | (is_any_set(bytes, 16, 32) | is_any_set(bytes, 72, 112))
+        any_set(bytes, 13, 14) | (any_set(bytes, 16, 32) | any_set(bytes, 72, 112))
     } else {
-        is_any_set(bytes, 13, 32) | is_any_set(bytes, 72, 112)
+        any_set(bytes, 13, 32) | any_set(bytes, 72, 112)
     }
 }
 
@@ -179,16 +181,16 @@ fn has_stray(bytes: &[u8]) -> bool
     let call = bytes[5];
     let service = bytes[7];
     match call {
-        1 => is_any_set(bytes, 6, 24) | is_any_set(bytes, 28, 112),
-        2 => is_any_set(bytes, 7, 32) | is_any_set(bytes, 100, 112),
-        3 => is_any_set(bytes, 12, 13) | is_any_set_by_offer(bytes, service),
-        4 => is_any_set_by_offer(bytes, service),
-        5 => is_any_set(bytes, 7, 24) | is_any_set(bytes, 32, 112),
-        6 => is_any_set(bytes, 6, 12) | (is_any_set(bytes, 13, 24) | is_any_set(bytes, 32, 112)),
-        7 => is_any_set(bytes, 6, 12) | is_any_set(bytes, 13, 112),
-        8 => is_any_set(bytes, 12, 112),
-        9 => is_any_set(bytes, 6, 7) | is_any_set(bytes, 12, 112),
-        0 | 10..=255 => is_any_set(bytes, 6, 112),
+        1 => any_set(bytes, 6, 24) | any_set(bytes, 28, 112),
+        2 => any_set(bytes, 7, 32) | any_set(bytes, 100, 112),
+        3 => any_set(bytes, 12, 13) | has_stray_beside_offer(bytes, service),
+        4 => has_stray_beside_offer(bytes, service),
+        5 => any_set(bytes, 7, 24) | any_set(bytes, 32, 112),
+        6 => any_set(bytes, 6, 12) | (any_set(bytes, 13, 24) | any_set(bytes, 32, 112)),
+        7 => any_set(bytes, 6, 12) | any_set(bytes, 13, 112),
+        8 => any_set(bytes, 12, 112),
+        9 => any_set(bytes, 6, 7) | any_set(bytes, 12, 112),
+        0 | 10..=255 => any_set(bytes, 6, 112),
     }
 }
 
@@ -199,15 +201,16 @@ pub fn record_number(bytes: &[u8], facilities: u64, services: u64) -> u8
     if bytes.len() != 112 {
         return 2;
     }
-    let stray = first(has_stray(bytes), 4, 0);
-    first(!is_headed(bytes), 2, first(is_outside(bytes, facilities, services), 3, stray))
+    let outside = is_outside(bytes, facilities, services);
+    let stray = has_stray(bytes);
+    first(!is_record(bytes), 2, first(outside, 3, first(stray, 4, 0)))
 }
 
 // "F not 1 to 64, S not 1 or 5"
-pub fn is_sized(f: i32, s: i32) -> bool
-    ensures { λ r. ⌜ r ≡ sizes-ok f s ⌝ }
+pub fn is_sized(facilities: i32, services: i32) -> bool
+    ensures { λ r. ⌜ r ≡ sizes-ok facilities services ⌝ }
 {
-    ((1 <= f) & (f <= 64)) & ((s == 1) | (s == 5))
+    ((1 <= facilities) & (facilities <= 64)) & ((services == 1) | (services == 5))
 }
 
 // 20 where F or S is wrong, else 2, 3, 4 or 0.

@@ -13,7 +13,7 @@ use Rattle.record.proofs.is_sized.Reads as is-sized-reads
 use Rattle.record.proofs.record_number.Reads as record-number-reads
 use Rattle.units.proofs.nat.Reads as nat-reads
 
--- src/lib.rt:184:9
+-- src/lib.rt:221:9
 is-sized-requires : tie.Need-is-sized-requires
 is-sized-requires c κs = search needs
 
@@ -22,37 +22,36 @@ sized c =
     c .is-sized .ensures
     ∙ ap₂ sizes-ok (toZ-ofZ {w = w32} (c .before .before .fits .facilities)) (toZ-ofZ {w = w32} (c .before .before .fits .services))
 
--- src/lib.rt:185:9
+-- src/lib.rt:222:9
 returns : tie.Need-returns
 unfolding record-test draw _then_
-returns c =
-    let s = c .before .before .before in
-    rw (← sized (c .before), c .if1 .taken)
+returns c = rw (← sized (c .before), c .if1 .taken)
 
--- src/lib.rt:187:26
+-- src/lib.rt:224:26
 nat-requires : tie.Need-nat-requires
 nat-requires c κs = search needs
 
--- src/lib.rt:187:43
+-- src/lib.rt:224:43
 nat-requires-2 : tie.Need-nat-requires-2
 nat-requires-2 c κs = search needs
 
--- src/lib.rt:187:5
+-- src/lib.rt:224:5
 record-number-requires : tie.Need-record-number-requires
 record-number-requires c κs = search needs
 
--- src/lib.rt:187:5
+-- src/lib.rt:224:5
 cast-result : tie.Need-cast-result
 cast-result c = search needs
 
--- src/lib.rt:180:1
+-- src/lib.rt:217:1
 returns-2 : tie.Need-returns-2
 unfolding record-test draw _then_
 returns-2 c =
     let s = c .before .before .before .before .before .before in
+    let f : c .before .before .nat .result ≡ toNat (s .args .facilities) = c .before .before .nat .ensures .0 ∙ ap toNat (toZ-ofZ {w = w32} (s .fits .facilities)) in
+    let t : c .before .nat2 .result ≡ toNat (s .args .services) = c .before .nat2 .ensures .0 ∙ ap toNat (toZ-ofZ {w = w32} (s .fits .services)) in
     let e : c .record-number .result ≡ record-number (s .args .bytes .now) (toNat (s .args .facilities)) (toNat (s .args .services)) =
-    c .record-number .ensures .0
-    ∙ ap₂ (record-number (s .args .bytes .now)) (c .before .before .nat .ensures .0 ∙ ap toNat (toZ-ofZ {w = w32} (s .fits .facilities))) (c .before .nat2 .ensures .0 ∙ ap toNat (toZ-ofZ {w = w32} (s .fits .services))) in
+    c .record-number .ensures .0 ∙ ap₂ (record-number (s .args .bytes .now)) f t in
     rw (toZ-pos w32 {n = c .record-number .result} (omega arith), e, ← sized (c .before .before .before .before), c .before .before .before .if1 .left)
 
 pub bilzhaan-record-test-spec : {M : Type 1} → statement M

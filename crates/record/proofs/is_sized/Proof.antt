@@ -8,10 +8,13 @@ use Rattle.record.proofs.is_sized.Tie as tie
 use Rattle.record.proofs.is_sized.Reads as reads
 use Rattle.record.proofs.is_sized.Lts as lts
 
--- src/lib.rt:173:1
+-- src/lib.rt:210:1
 returns : tie.Need-returns
 unfolding sizes-ok
-returns c = rw (toZ-ofZ {w = w32} (c .fits .f), eqb-bits (c .args .s) (pos 1) (c .fits .s) (sfits-lit tt), eqb-bits (c .args .s) (pos 5) (c .fits .s) (sfits-lit tt))
+returns c =
+    let s = c .args .services in
+    let fits = c .fits .services in
+    rw (toZ-ofZ {w = w32} (c .fits .facilities), eqb-bits s (pos 1) fits (sfits-lit tt), eqb-bits s (pos 5) fits (sfits-lit tt))
 
 pub is-sized-spec : {M : Type 1} → statement M
 is-sized-spec = tie.close (tie.spec returns)

@@ -1,7 +1,6 @@
-use mathlib.Core.Bool.{_&&_, _||_}
-use lib.Dec.{eqb, ltb}
-use Rattle.book_rules.specs.Record.{used-by-offer, between}
-use Rattle.record.proofs.StrayBytes.{chosen}
+use native.Mathlib.Omega.{arith}
+use borrow.Author.Tests.{eq-eqb, ne-eqb}
+use Rattle.book_rules.specs.Record.{used-by-offer}
 use borrow.Author.Needs.{needs}
 use Rattle.record.proofs.is_used_by_offer.Statement.{statement}
 use Rattle.record.proofs.is_used_by_offer.Tie as tie
@@ -9,30 +8,35 @@ use Rattle.record.proofs.is_used_by_offer.Reads as reads
 use Rattle.record.proofs.is_used_by_offer.Lts as lts
 use Rattle.record.proofs.is_between.Reads as is-between-reads
 
--- src/lib.rt:98:18
+-- src/lib.rt:100:9
 is-between-requires : tie.Need-is-between-requires
 is-between-requires c κs = search needs
 
--- src/lib.rt:98:42
+-- src/lib.rt:100:33
 is-between-requires-2 : tie.Need-is-between-requires-2
 is-between-requires-2 c κs = search needs
 
--- src/lib.rt:99:34
+-- src/lib.rt:102:26
 is-between-requires-3 : tie.Need-is-between-requires-3
 is-between-requires-3 c κs = search needs
 
--- src/lib.rt:99:59
+-- src/lib.rt:102:51
 is-between-requires-4 : tie.Need-is-between-requires-4
 is-between-requires-4 c κs = search needs
 
--- src/lib.rt:95:1
+-- src/lib.rt:96:1
 returns : tie.Need-returns
 unfolding used-by-offer
 returns c =
-    let s = c .before .before .before .before .args .service in
-    let i = c .before .before .before .before .args .i in
-    rw (c .is-between4 .ensures, c .before .is-between3 .ensures, c .before .before .is-between2 .ensures, c .before .before .before .is-between .ensures)
-    (chosen (eqb s 0) (between 16 23 i || between 32 111 i) ((ltb s 4 && between 14 15 i) || between 32 71 i))
+    let s = c .before .before .before .args .service in
+    rw (c .is-between2 .ensures, c .before .is-between .ensures, eq-eqb s 0 (omega arith))
+
+-- src/lib.rt:96:1
+returns-2 : tie.Need-returns-2
+unfolding used-by-offer
+returns-2 c =
+    let s = c .before .before .before .args .service in
+    rw (c .is-between4 .ensures, c .before .is-between3 .ensures, ne-eqb s 0 (λ e. omega arith))
 
 pub is-used-by-offer-spec : {M : Type 1} → statement M
 is-used-by-offer-spec =
@@ -42,4 +46,5 @@ is-used-by-offer-spec =
     is-between-requires-2
     is-between-requires-3
     is-between-requires-4
-    returns)
+    returns
+    returns-2)

@@ -10,60 +10,62 @@ use Rattle.record.proofs.record_number.Statement.{statement}
 use Rattle.record.proofs.record_number.Tie as tie
 use Rattle.record.proofs.record_number.Reads as reads
 use Rattle.record.proofs.record_number.Lts as lts
-use Rattle.record.proofs.is_headed.Reads as is-headed-reads
-use Rattle.record.proofs.is_outside.Reads as is-outside-reads
 use Rattle.record.proofs.has_stray.Reads as has-stray-reads
+use Rattle.record.proofs.is_outside.Reads as is-outside-reads
+use Rattle.record.proofs.is_record.Reads as is-record-reads
 use Rattle.units.proofs.first.Reads as first-reads
 
--- src/lib.rt:166:9
+-- src/lib.rt:202:9
 returns : tie.Need-returns
 unfolding record-number is-record draw _then_
 returns c = (rw (ne-eqb (length (c .before .before .args .bytes .now)) 112 (c .if1 .taken)), search needs)
 
--- src/lib.rt:168:23
-has-stray-requires : tie.Need-has-stray-requires
-has-stray-requires c κs = search needs
-
--- src/lib.rt:168:9
-first-requires : tie.Need-first-requires
-first-requires c κs = search needs
-
--- src/lib.rt:169:12
-is-headed-requires : tie.Need-is-headed-requires
-is-headed-requires c κs = search needs
-
--- src/lib.rt:169:39
+-- src/lib.rt:204:9
 is-outside-requires : tie.Need-is-outside-requires
 is-outside-requires c κs = search needs
 
--- src/lib.rt:169:33
+-- src/lib.rt:205:9
+has-stray-requires : tie.Need-has-stray-requires
+has-stray-requires c κs = search needs
+
+-- src/lib.rt:206:12
+is-record-requires : tie.Need-is-record-requires
+is-record-requires c κs = search needs
+
+-- src/lib.rt:206:51
+first-requires : tie.Need-first-requires
+first-requires c κs = search needs
+
+-- src/lib.rt:206:33
 first-requires-2 : tie.Need-first-requires-2
 first-requires-2 c κs = search needs
 
--- src/lib.rt:169:5
+-- src/lib.rt:206:5
 first-requires-3 : tie.Need-first-requires-3
 first-requires-3 c κs = search needs
 
--- src/lib.rt:162:1
+-- src/lib.rt:198:1
 returns-2 : tie.Need-returns-2
 unfolding record-number
 returns-2 c =
     let s = c .before .before .before .before .before .before .before .before in
     let b = s .args .bytes .now in
-    let o : Bool = outside b (s .args .facilities) (s .args .services) in
-    let e : c .first3 .result ≡ cond (not (is-record b)) 2 (cond o 3 (cond (has-stray b) 4 0)) =
-    rw (c .first3 .ensures, c .before .first2 .ensures, c .before .before .is-outside .ensures, c .before .before .before .is-headed .ensures, c .before .before .before .before .first .ensures, c .before .before .before .before .before .has-stray .ensures) in
-    (e ∙ sym (drawn-in-order (not (is-record b)) o (has-stray b)), rw e (drawn-at-most-4 (not (is-record b)) o (has-stray b)))
+    let t : Bool = not (is-record b) in
+    let u : Bool = outside b (s .args .facilities) (s .args .services) in
+    let v : Bool = has-stray b in
+    let e : c .first3 .result ≡ cond t 2 (cond u 3 (cond v 4 0)) =
+    rw (c .first3 .ensures, c .before .first2 .ensures, c .before .before .first .ensures, c .before .before .before .is-record .ensures, c .before .before .before .before .has-stray .ensures, c .before .before .before .before .before .is-outside .ensures) in
+    (e ∙ sym (drawn-in-order t u v), rw e (drawn-at-most-4 t u v))
 
 pub record-number-spec : {M : Type 1} → statement M
 record-number-spec =
     tie.close
     (tie.spec
     returns
-    has-stray-requires
-    first-requires
-    is-headed-requires
     is-outside-requires
+    has-stray-requires
+    is-record-requires
+    first-requires
     first-requires-2
     first-requires-3
     returns-2)

@@ -2,46 +2,46 @@ use borrow.Author.Tests.{eq-eqb}
 use lib.ListN.{length}
 use Rattle.book_rules.specs.Record.{is-record}
 use borrow.Author.Needs.{needs}
-use Rattle.record.proofs.is_headed.Statement.{statement}
-use Rattle.record.proofs.is_headed.Tie as tie
-use Rattle.record.proofs.is_headed.Reads as reads
-use Rattle.record.proofs.is_headed.Lts as lts
+use Rattle.record.proofs.is_record.Statement.{statement}
+use Rattle.record.proofs.is_record.Tie as tie
+use Rattle.record.proofs.is_record.Reads as reads
+use Rattle.record.proofs.is_record.Lts as lts
 
--- src/lib.rt:126:8
+-- src/lib.rt:129:8
 shared-slice-read-result : tie.Need-shared-slice-read-result
 shared-slice-read-result c = search needs
 
--- src/lib.rt:126:27
+-- src/lib.rt:129:27
 shared-slice-read-result-2 : tie.Need-shared-slice-read-result-2
 shared-slice-read-result-2 c = search needs
 
--- src/lib.rt:126:47
+-- src/lib.rt:129:47
 shared-slice-read-result-3 : tie.Need-shared-slice-read-result-3
 shared-slice-read-result-3 c = search needs
 
--- src/lib.rt:127:14
+-- src/lib.rt:130:14
 shared-slice-read-result-4 : tie.Need-shared-slice-read-result-4
 shared-slice-read-result-4 c = search needs
 
--- src/lib.rt:127:32
+-- src/lib.rt:130:32
 shared-slice-read-result-5 : tie.Need-shared-slice-read-result-5
 shared-slice-read-result-5 c = search needs
 
--- src/lib.rt:127:57
+-- src/lib.rt:130:57
 shared-slice-read-result-6 : tie.Need-shared-slice-read-result-6
 shared-slice-read-result-6 c = search needs
 
--- src/lib.rt:127:70
+-- src/lib.rt:130:70
 shared-slice-read-result-7 : tie.Need-shared-slice-read-result-7
 shared-slice-read-result-7 c = search needs
 
--- src/lib.rt:122:1
+-- src/lib.rt:125:1
 returns : tie.Need-returns
 unfolding is-record
 returns c = let s = c .before .before .before .before .before .before .before in rw (eq-eqb (length (s .args .bytes .now)) 112 (s .pre))
 
-pub is-headed-spec : {M : Type 1} → statement M
-is-headed-spec =
+pub is-record-spec : {M : Type 1} → statement M
+is-record-spec =
     tie.close
     (tie.spec
     shared-slice-read-result
