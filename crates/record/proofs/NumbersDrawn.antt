@@ -1,7 +1,8 @@
--- The numbers 2, 3 and 4, drawn in order and as the code picks them.
+-- The numbers 2, 3 and 4, drawn in order,
+-- are those that the code picks by nested choices.
 use mathlib.Core.Path.{_≡_, refl}
 use mathlib.Core.Bool.{Bool, true, false, cond}
-use Prim.Native.Nat.{ℕ, _≤_}
+use Prim.Native.Nat.{_≤_}
 use native.Mathlib.Omega.{arith}
 use Rattle.offer_rules.specs.Numbers.{draw, _then_}
 

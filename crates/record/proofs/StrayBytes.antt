@@ -1,7 +1,7 @@
 -- A record's stray bytes are those that are not zero in the gaps between the bytes that its call uses.
 -- Whether gaps are those of a call is computed, by `fit`.
 use mathlib.Core.Path.{_≡_, refl, sym, ap, _∙_}
-use mathlib.Core.Bool.{Bool, true, false, not, _&&_, _||_}
+use mathlib.Core.Bool.{Bool, true, false, not, _&&_, _||_, and-true, and-false, or-false, or-assoc}
 use mathlib.Core.List.{List, [], _∷_}
 use Prim.Native.Nat.{ℕ, zero, suc, _+_, _-_, _<_, _≤_}
 use native.Mathlib.Omega.{arith}
@@ -12,22 +12,6 @@ use borrow.Author.Tests.{leb-true, not-true}
 use Rattle.offer_rules.proofs.Drawn.{and-left, and-right}
 use Rattle.book_rules.specs.Record.{any-stray}
 use Rattle.record.specs.Gaps.{any-set}
-
-or-assoc : (x y z : Bool) → ((x || y) || z) ≡ (x || (y || z))
-or-assoc true y z = refl
-or-assoc false y z = refl
-
-or-none : (x : Bool) → (x || false) ≡ x
-or-none true = refl
-or-none false = refl
-
-and-true : (x : Bool) → (x && true) ≡ x
-and-true true = refl
-and-true false = refl
-
-and-false : (x : Bool) → (x && false) ≡ false
-and-false true = refl
-and-false false = refl
 
 -- ---- a loop over the bytes from i to before z
 
@@ -41,7 +25,7 @@ set-more b i z seen h =
 
 pub set-end : (b : List ℕ) (i z : ℕ) (seen : Bool) → z ≤ i → (seen || any-set b i (z - i)) ≡ seen
 unfolding any-set
-set-end b i z seen h = let n : z - i ≡ 0 = omega arith in rw n (or-none seen)
+set-end b i z seen h = let n : z - i ≡ 0 = omega arith in rw n (or-false seen)
 
 -- ---- gaps
 
@@ -78,7 +62,7 @@ set-or b (q ∷ l) later = any-set b (q .start) (q .count) || set-or b l later
 set-or-none : (b : List ℕ) (l : List Gap) → set-or b l false ≡ set-in-gaps b l
 unfolding set-or set-in-gaps
 set-or-none b [] = refl
-set-or-none b (q ∷ []) = or-none (any-set b (q .start) (q .count))
+set-or-none b (q ∷ []) = or-false (any-set b (q .start) (q .count))
 set-or-none b (q ∷ (r ∷ l)) = ap (λ (y : Bool). any-set b (q .start) (q .count) || y) (set-or-none b (r ∷ l))
 
 fit-ends : (f : ℕ → Bool) (i z : ℕ) (l : List Gap) → fit f i z l ≡ true → i ≤ z

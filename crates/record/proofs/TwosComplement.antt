@@ -1,4 +1,5 @@
--- The machine's reading of 32 bits is the record's `signed`.
+-- The machine's reading of 32 bits is the record's `signed`,
+-- also of bits that were made by a flip.
 use mathlib.Core.Path.{_≡_, refl, ap, _∙_}
 use mathlib.Core.Bool.{Bool, true, false, cond}
 use Prim.Native.Nat.{ℕ, suc, _-_, _<_, _^_}

@@ -1,4 +1,5 @@
--- A list filled from the front with a record's words.
+-- A list filled from the front with a record's words:
+-- a turn of the loop that does it, and its end.
 use mathlib.Core.Path.{_≡_, refl, sym, ap, _∙_}
 use mathlib.Core.List.{List, [], _∷_, _++_, append-nil}
 use Prim.Native.Nat.{ℕ, zero, suc, _+_, _*_, _<_, _≤_}

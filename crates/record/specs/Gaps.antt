@@ -1,6 +1,6 @@
 -- Bytes that are not zero in a gap between the bytes that a call uses.
 -- The contracts of the loop over a gap are written with it; the rule itself is `any-stray`.
-use mathlib.Core.Bool.{Bool, true, false, not, _||_}
+use mathlib.Core.Bool.{Bool, false, not, _||_}
 use mathlib.Core.List.{List}
 use Prim.Native.Nat.{ℕ, zero, suc}
 use lib.Dec.{eqb}

@@ -52,9 +52,9 @@ pub fn half_at(bytes: &[u8], at: usize) -> i32
     join_two(bytes[at], bytes[at + 1]) as i32
 }
 
-// Fills words from byte at on.
+// Fills the words from byte `at` on.
 fn fill_words(words: &mut [i32], bytes: &[u8], at: usize)
-    requires { ⌜ (at ≤ 112) × (at + 4 * length (now words) ≤ length (now bytes)) ⌝ }
+    requires { ⌜ at + 4 * length (now words) ≤ length (now bytes) ⌝ }
     ensures { λ _. ⌜ now (words .exit) ≡ words-at (now (bytes .entry)) at (length (now (words .entry))) ⌝ }
 {
     let n = words.len();
@@ -126,10 +126,11 @@ fn is_record(bytes: &[u8]) -> bool
     requires { ⌜ length (now bytes) ≡ 112 ⌝ }
     ensures { λ r. ⌜ r ≡ is-record (now (bytes .entry)) ⌝ }
 {
-    (((bytes[0] == 83) & (bytes[1] == 79)) & (bytes[2] == 66))
+    (((bytes[0] == b'S') & (bytes[1] == b'O')) & (bytes[2] == b'B'))
         & (((bytes[3] == 0) & (bytes[4] == 1)) & ((1 <= bytes[5]) & (bytes[5] <= 9)))
 }
 
+// A byte as a count.
 fn wide(x: u8) -> u64
     ensures { λ r. ⌜ r ≡ x ⌝ }
 {
@@ -159,7 +160,7 @@ fn any_set(bytes: &[u8], from: usize, to: usize) -> bool
     seen
 }
 
-// 4 of an offer's call, from byte 13 on.
+// 4 of a call that carries an offer, from byte 13 on.
 fn has_stray_beside_offer(bytes: &[u8], service: u8) -> bool
     requires { ⌜ length (now bytes) ≡ 112 ⌝ }
     ensures { λ r. ⌜ r ≡ any-stray (used-by-offer service) 13 (drop 13 (now (bytes .entry))) ⌝ }
@@ -173,7 +174,7 @@ fn has_stray_beside_offer(bytes: &[u8], service: u8) -> bool
     }
 }
 
-// 4 "an unused byte not zero": the gaps between the bytes that the call uses.
+// 4 "an unused byte not zero": the gaps between the bytes of is_used. With ends that are known, a loop tests 16 bytes at a time.
 fn has_stray(bytes: &[u8]) -> bool
     requires { ⌜ length (now bytes) ≡ 112 ⌝ }
     ensures { λ r. ⌜ r ≡ has-stray (now (bytes .entry)) ⌝ }

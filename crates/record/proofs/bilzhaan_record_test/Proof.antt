@@ -1,3 +1,5 @@
+-- The test that C calls gives the number of `record-test`.
+-- F and S go from words to counts once they are known to be in range.
 use mathlib.Core.Path.{_≡_, ap, ap₂, _∙_}
 use native.Mathlib.Omega.{arith}
 use mir.Syntax.{w32}
@@ -7,13 +9,7 @@ use Rattle.book_rules.specs.Record.{record-test, record-number, sizes-ok}
 use borrow.Author.Needs.{needs}
 use Rattle.record.proofs.bilzhaan_record_test.Statement.{statement}
 use Rattle.record.proofs.bilzhaan_record_test.Tie as tie
-use Rattle.record.proofs.bilzhaan_record_test.Reads as reads
-use Rattle.record.proofs.bilzhaan_record_test.Lts as lts
-use Rattle.record.proofs.is_sized.Reads as is-sized-reads
-use Rattle.record.proofs.record_number.Reads as record-number-reads
-use Rattle.units.proofs.nat.Reads as nat-reads
 
--- src/lib.rt:221:9
 is-sized-requires : tie.Need-is-sized-requires
 is-sized-requires c κs = search needs
 
@@ -22,28 +18,22 @@ sized c =
     c .is-sized .ensures
     ∙ ap₂ sizes-ok (toZ-ofZ {w = w32} (c .before .before .fits .facilities)) (toZ-ofZ {w = w32} (c .before .before .fits .services))
 
--- src/lib.rt:222:9
 returns : tie.Need-returns
 unfolding record-test draw _then_
 returns c = rw (← sized (c .before), c .if1 .taken)
 
--- src/lib.rt:224:26
 nat-requires : tie.Need-nat-requires
 nat-requires c κs = search needs
 
--- src/lib.rt:224:43
 nat-requires-2 : tie.Need-nat-requires-2
 nat-requires-2 c κs = search needs
 
--- src/lib.rt:224:5
 record-number-requires : tie.Need-record-number-requires
 record-number-requires c κs = search needs
 
--- src/lib.rt:224:5
 cast-result : tie.Need-cast-result
 cast-result c = search needs
 
--- src/lib.rt:217:1
 returns-2 : tie.Need-returns-2
 unfolding record-test draw _then_
 returns-2 c =

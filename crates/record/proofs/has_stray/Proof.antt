@@ -1,3 +1,5 @@
+-- Each arm's gaps are what its call doesn't use: `fit` computes it, from the arm's own numbers.
+-- Calls 3 and 4 end in the bytes beside an offer.
 use mathlib.Core.Path.{_≡_, refl, sym}
 use mathlib.Core.Logic.{⊎-elim}
 use mathlib.Core.Bool.{false, _||_}
@@ -12,92 +14,67 @@ use Rattle.record.proofs.OfferBytes.{stray-beside-offer}
 use borrow.Author.Needs.{needs}
 use Rattle.record.proofs.has_stray.Statement.{statement}
 use Rattle.record.proofs.has_stray.Tie as tie
-use Rattle.record.proofs.has_stray.Reads as reads
-use Rattle.record.proofs.has_stray.Lts as lts
-use Rattle.record.proofs.any_set.Reads as any-set-reads
-use Rattle.record.proofs.has_stray_beside_offer.Reads as has-stray-beside-offer-reads
 
--- src/lib.rt:181:16
 shared-slice-read-call : tie.Need-shared-slice-read-call
 shared-slice-read-call c = search needs
 
--- src/lib.rt:182:19
 shared-slice-read-service : tie.Need-shared-slice-read-service
 shared-slice-read-service c = search needs
 
--- src/lib.rt:184:14
 any-set-requires : tie.Need-any-set-requires
 any-set-requires c κs = search needs
 
--- src/lib.rt:184:38
 any-set-requires-2 : tie.Need-any-set-requires-2
 any-set-requires-2 c κs = search needs
 
--- src/lib.rt:185:14
 any-set-requires-3 : tie.Need-any-set-requires-3
 any-set-requires-3 c κs = search needs
 
--- src/lib.rt:185:38
 any-set-requires-4 : tie.Need-any-set-requires-4
 any-set-requires-4 c κs = search needs
 
--- src/lib.rt:186:14
 any-set-requires-5 : tie.Need-any-set-requires-5
 any-set-requires-5 c κs = search needs
 
--- src/lib.rt:186:39
 has-stray-beside-offer-requires : tie.Need-has-stray-beside-offer-requires
 has-stray-beside-offer-requires c κs = search needs
 
--- src/lib.rt:187:14
 has-stray-beside-offer-requires-2 : tie.Need-has-stray-beside-offer-requires-2
 has-stray-beside-offer-requires-2 c κs = search needs
 
--- src/lib.rt:188:14
 any-set-requires-6 : tie.Need-any-set-requires-6
 any-set-requires-6 c κs = search needs
 
--- src/lib.rt:188:38
 any-set-requires-7 : tie.Need-any-set-requires-7
 any-set-requires-7 c κs = search needs
 
--- src/lib.rt:189:14
 any-set-requires-8 : tie.Need-any-set-requires-8
 any-set-requires-8 c κs = search needs
 
--- src/lib.rt:189:39
 any-set-requires-9 : tie.Need-any-set-requires-9
 any-set-requires-9 c κs = search needs
 
--- src/lib.rt:189:64
 any-set-requires-10 : tie.Need-any-set-requires-10
 any-set-requires-10 c κs = search needs
 
--- src/lib.rt:190:14
 any-set-requires-11 : tie.Need-any-set-requires-11
 any-set-requires-11 c κs = search needs
 
--- src/lib.rt:190:38
 any-set-requires-12 : tie.Need-any-set-requires-12
 any-set-requires-12 c κs = search needs
 
--- src/lib.rt:191:14
 any-set-requires-13 : tie.Need-any-set-requires-13
 any-set-requires-13 c κs = search needs
 
--- src/lib.rt:192:14
 any-set-requires-14 : tie.Need-any-set-requires-14
 any-set-requires-14 c κs = search needs
 
--- src/lib.rt:192:37
 any-set-requires-15 : tie.Need-any-set-requires-15
 any-set-requires-15 c κs = search needs
 
--- src/lib.rt:193:25
 any-set-requires-16 : tie.Need-any-set-requires-16
 any-set-requires-16 c κs = search needs
 
--- src/lib.rt:177:1
 returns : tie.Need-returns
 unfolding has-stray used fit set-in-gaps all-used all-unused
 returns c =
@@ -106,7 +83,6 @@ returns c =
     rw (c .any-set2 .ensures, c .before .any-set .ensures)
     (stray-in-gaps (used (byte b 5) (byte b 7)) (λ i. between 24 27 i) b 6 (gap _ _ ∷ (gap _ _ ∷ [])) (s .pre) (λ i. rw (c .before .before .match .keys1)) refl)
 
--- src/lib.rt:177:1
 returns-2 : tie.Need-returns-2
 unfolding has-stray used fit set-in-gaps all-used all-unused
 returns-2 c =
@@ -115,7 +91,6 @@ returns-2 c =
     rw (c .any-set4 .ensures, c .before .any-set3 .ensures)
     (stray-in-gaps (used (byte b 5) (byte b 7)) (λ i. eqb i 6 || between 32 99 i) b 6 (gap _ _ ∷ (gap _ _ ∷ [])) (s .pre) (λ i. rw (c .before .before .match .keys2)) refl)
 
--- src/lib.rt:177:1
 returns-3 : tie.Need-returns-3
 unfolding has-stray used fit set-or all-used all-unused
 returns-3 c =
@@ -124,7 +99,6 @@ returns-3 c =
     rw (c .has-stray-beside-offer .ensures, c .before .any-set5 .ensures)
     (sym (stray-beside-offer (used (byte b 5) (byte b 7)) (byte b 7) 11 b (gap _ _ ∷ []) (omega arith) (s .pre) (λ i. rw (c .before .before .match .keys3)) refl))
 
--- src/lib.rt:177:1
 returns-4 : tie.Need-returns-4
 unfolding has-stray used fit set-or all-used all-unused
 returns-4 c =
@@ -133,7 +107,6 @@ returns-4 c =
     rw (c .has-stray-beside-offer2 .ensures)
     (sym (stray-beside-offer (used (byte b 5) (byte b 7)) (byte b 7) 12 b [] (omega arith) (s .pre) (λ i. rw (c .before .match .keys4)) refl))
 
--- src/lib.rt:177:1
 returns-5 : tie.Need-returns-5
 unfolding has-stray used fit set-in-gaps all-used all-unused
 returns-5 c =
@@ -142,7 +115,6 @@ returns-5 c =
     rw (c .any-set7 .ensures, c .before .any-set6 .ensures)
     (stray-in-gaps (used (byte b 5) (byte b 7)) (λ i. eqb i 6 || between 24 31 i) b 6 (gap _ _ ∷ (gap _ _ ∷ [])) (s .pre) (λ i. rw (c .before .before .match .keys5)) refl)
 
--- src/lib.rt:177:1
 returns-6 : tie.Need-returns-6
 unfolding has-stray used fit set-in-gaps all-used all-unused
 returns-6 c =
@@ -151,7 +123,6 @@ returns-6 c =
     rw (c .any-set10 .ensures, c .before .any-set9 .ensures, c .before .before .any-set8 .ensures)
     (stray-in-gaps (used (byte b 5) (byte b 7)) (λ i. eqb i 12 || between 24 31 i) b 6 (gap _ _ ∷ (gap _ _ ∷ (gap _ _ ∷ []))) (s .pre) (λ i. rw (c .before .before .before .match .keys6)) refl)
 
--- src/lib.rt:177:1
 returns-7 : tie.Need-returns-7
 unfolding has-stray used fit set-in-gaps all-used all-unused
 returns-7 c =
@@ -160,7 +131,6 @@ returns-7 c =
     rw (c .any-set12 .ensures, c .before .any-set11 .ensures)
     (stray-in-gaps (used (byte b 5) (byte b 7)) (λ i. eqb i 12) b 6 (gap _ _ ∷ (gap _ _ ∷ [])) (s .pre) (λ i. rw (c .before .before .match .keys7)) refl)
 
--- src/lib.rt:177:1
 returns-8 : tie.Need-returns-8
 unfolding has-stray used fit set-in-gaps all-used all-unused
 returns-8 c =
@@ -169,7 +139,6 @@ returns-8 c =
     rw (c .any-set13 .ensures)
     (stray-in-gaps (used (byte b 5) (byte b 7)) (λ i. between 6 11 i) b 6 (gap _ _ ∷ []) (s .pre) (λ i. rw (c .before .match .keys8)) refl)
 
--- src/lib.rt:177:1
 returns-9 : tie.Need-returns-9
 unfolding has-stray used fit set-in-gaps all-used all-unused
 returns-9 c =
@@ -178,7 +147,6 @@ returns-9 c =
     rw (c .any-set15 .ensures, c .before .any-set14 .ensures)
     (stray-in-gaps (used (byte b 5) (byte b 7)) (λ i. between 7 11 i) b 6 (gap _ _ ∷ (gap _ _ ∷ [])) (s .pre) (λ i. rw (c .before .before .match .keys9)) refl)
 
--- src/lib.rt:177:1
 returns-10 : tie.Need-returns-10
 unfolding has-stray used fit set-in-gaps all-used all-unused
 returns-10 c =

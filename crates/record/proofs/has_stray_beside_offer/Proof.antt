@@ -1,4 +1,6 @@
-use mathlib.Core.Path.{_≡_, refl}
+-- The gaps beside an offer, for service 0, 1 to 3, and 4 or more.
+-- `fit` computes that they are what such an offer doesn't use.
+use mathlib.Core.Path.{refl}
 use mathlib.Core.Bool.{_||_}
 use mathlib.Core.List.{[], _∷_}
 use native.Mathlib.Omega.{arith}
@@ -8,39 +10,28 @@ use Rattle.record.proofs.StrayBytes.{gap, fit, set-in-gaps, all-used, a
 use borrow.Author.Needs.{needs}
 use Rattle.record.proofs.has_stray_beside_offer.Statement.{statement}
 use Rattle.record.proofs.has_stray_beside_offer.Tie as tie
-use Rattle.record.proofs.has_stray_beside_offer.Reads as reads
-use Rattle.record.proofs.has_stray_beside_offer.Lts as lts
-use Rattle.record.proofs.any_set.Reads as any-set-reads
 
--- src/lib.rt:168:9
 any-set-requires : tie.Need-any-set-requires
 any-set-requires c κs = search needs
 
--- src/lib.rt:168:34
 any-set-requires-2 : tie.Need-any-set-requires-2
 any-set-requires-2 c κs = search needs
 
--- src/lib.rt:170:9
 any-set-requires-3 : tie.Need-any-set-requires-3
 any-set-requires-3 c κs = search needs
 
--- src/lib.rt:170:35
 any-set-requires-4 : tie.Need-any-set-requires-4
 any-set-requires-4 c κs = search needs
 
--- src/lib.rt:170:60
 any-set-requires-5 : tie.Need-any-set-requires-5
 any-set-requires-5 c κs = search needs
 
--- src/lib.rt:172:9
 any-set-requires-6 : tie.Need-any-set-requires-6
 any-set-requires-6 c κs = search needs
 
--- src/lib.rt:172:34
 any-set-requires-7 : tie.Need-any-set-requires-7
 any-set-requires-7 c κs = search needs
 
--- src/lib.rt:163:1
 returns : tie.Need-returns
 unfolding used-by-offer fit set-in-gaps all-used all-unused
 returns c =
@@ -50,7 +41,6 @@ returns c =
     rw (c .any-set2 .ensures, c .before .any-set .ensures)
     (stray-in-gaps (used-by-offer t) (λ i. between 16 23 i || between 32 111 i) b 13 (gap _ _ ∷ (gap _ _ ∷ [])) (s .pre) (λ i. rw (eq-eqb t 0 (omega arith))) refl)
 
--- src/lib.rt:163:1
 returns-2 : tie.Need-returns-2
 unfolding used-by-offer fit set-in-gaps all-used all-unused
 returns-2 c =
@@ -60,7 +50,6 @@ returns-2 c =
     rw (c .any-set5 .ensures, c .before .any-set4 .ensures, c .before .before .any-set3 .ensures)
     (stray-in-gaps (used-by-offer t) (λ i. between 14 15 i || between 32 71 i) b 13 (gap _ _ ∷ (gap _ _ ∷ (gap _ _ ∷ []))) (s .pre) (λ i. rw (ne-eqb t 0 (λ e. omega arith), lt-ltb t 4 (omega arith))) refl)
 
--- src/lib.rt:163:1
 returns-3 : tie.Need-returns-3
 unfolding used-by-offer fit set-in-gaps all-used all-unused
 returns-3 c =

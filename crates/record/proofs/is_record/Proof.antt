@@ -1,41 +1,33 @@
+-- Mark, version and call of 112 bytes are those of a record.
+-- The length is known, so the definition's first test holds.
 use borrow.Author.Tests.{eq-eqb}
 use lib.ListN.{length}
 use Rattle.book_rules.specs.Record.{is-record}
 use borrow.Author.Needs.{needs}
 use Rattle.record.proofs.is_record.Statement.{statement}
 use Rattle.record.proofs.is_record.Tie as tie
-use Rattle.record.proofs.is_record.Reads as reads
-use Rattle.record.proofs.is_record.Lts as lts
 
--- src/lib.rt:129:8
 shared-slice-read-result : tie.Need-shared-slice-read-result
 shared-slice-read-result c = search needs
 
--- src/lib.rt:129:27
 shared-slice-read-result-2 : tie.Need-shared-slice-read-result-2
 shared-slice-read-result-2 c = search needs
 
--- src/lib.rt:129:47
 shared-slice-read-result-3 : tie.Need-shared-slice-read-result-3
 shared-slice-read-result-3 c = search needs
 
--- src/lib.rt:130:14
 shared-slice-read-result-4 : tie.Need-shared-slice-read-result-4
 shared-slice-read-result-4 c = search needs
 
--- src/lib.rt:130:32
 shared-slice-read-result-5 : tie.Need-shared-slice-read-result-5
 shared-slice-read-result-5 c = search needs
 
--- src/lib.rt:130:57
 shared-slice-read-result-6 : tie.Need-shared-slice-read-result-6
 shared-slice-read-result-6 c = search needs
 
--- src/lib.rt:130:70
 shared-slice-read-result-7 : tie.Need-shared-slice-read-result-7
 shared-slice-read-result-7 c = search needs
 
--- src/lib.rt:125:1
 returns : tie.Need-returns
 unfolding is-record
 returns c = let s = c .before .before .before .before .before .before .before in rw (eq-eqb (length (s .args .bytes .now)) 112 (s .pre))

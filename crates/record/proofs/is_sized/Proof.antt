@@ -1,3 +1,5 @@
+-- The sizes that an opening takes.
+-- `==` on signed words compares their bits.
 use lib.IntN.{pos}
 use mir.Syntax.{w32}
 use mir.Facts.{sfits-lit, toZ-ofZ}
@@ -5,10 +7,7 @@ use Rattle.book_rules.specs.Record.{sizes-ok}
 use Rattle.units.proofs.Signs.{eqb-bits}
 use Rattle.record.proofs.is_sized.Statement.{statement}
 use Rattle.record.proofs.is_sized.Tie as tie
-use Rattle.record.proofs.is_sized.Reads as reads
-use Rattle.record.proofs.is_sized.Lts as lts
 
--- src/lib.rt:210:1
 returns : tie.Need-returns
 unfolding sizes-ok
 returns c =

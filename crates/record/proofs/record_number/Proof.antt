@@ -1,3 +1,5 @@
+-- The lowest of 2, 3 and 4 that applies, else 0.
+-- A record that isn't 112 bytes draws 2 before any byte is read.
 use mathlib.Core.Path.{_≡_, sym, _∙_}
 use mathlib.Core.Bool.{Bool, cond, not}
 use lib.ListN.{length}
@@ -8,43 +10,29 @@ use Rattle.record.proofs.NumbersDrawn.{drawn-in-order, drawn-at-most-4}
 use borrow.Author.Needs.{needs}
 use Rattle.record.proofs.record_number.Statement.{statement}
 use Rattle.record.proofs.record_number.Tie as tie
-use Rattle.record.proofs.record_number.Reads as reads
-use Rattle.record.proofs.record_number.Lts as lts
-use Rattle.record.proofs.has_stray.Reads as has-stray-reads
-use Rattle.record.proofs.is_outside.Reads as is-outside-reads
-use Rattle.record.proofs.is_record.Reads as is-record-reads
-use Rattle.units.proofs.first.Reads as first-reads
 
--- src/lib.rt:202:9
 returns : tie.Need-returns
 unfolding record-number is-record draw _then_
 returns c = (rw (ne-eqb (length (c .before .before .args .bytes .now)) 112 (c .if1 .taken)), search needs)
 
--- src/lib.rt:204:9
 is-outside-requires : tie.Need-is-outside-requires
 is-outside-requires c κs = search needs
 
--- src/lib.rt:205:9
 has-stray-requires : tie.Need-has-stray-requires
 has-stray-requires c κs = search needs
 
--- src/lib.rt:206:12
 is-record-requires : tie.Need-is-record-requires
 is-record-requires c κs = search needs
 
--- src/lib.rt:206:51
 first-requires : tie.Need-first-requires
 first-requires c κs = search needs
 
--- src/lib.rt:206:33
 first-requires-2 : tie.Need-first-requires-2
 first-requires-2 c κs = search needs
 
--- src/lib.rt:206:5
 first-requires-3 : tie.Need-first-requires-3
 first-requires-3 c κs = search needs
 
--- src/lib.rt:198:1
 returns-2 : tie.Need-returns-2
 unfolding record-number
 returns-2 c =

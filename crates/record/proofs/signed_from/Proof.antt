@@ -1,27 +1,22 @@
+-- The machine's reading of the bits is `signed`.
+-- From 2^31 on it is made by a flip, which asks for no range.
 use Rattle.record.proofs.TwosComplement.{toZ-signed, flipped}
 use borrow.Author.Needs.{needs}
 use Rattle.record.proofs.signed_from.Statement.{statement}
 use Rattle.record.proofs.signed_from.Tie as tie
-use Rattle.record.proofs.signed_from.Reads as reads
-use Rattle.record.proofs.signed_from.Lts as lts
 
--- src/lib.rt:32:9
 cast-result : tie.Need-cast-result
 cast-result c = search needs
 
--- src/lib.rt:34:12
 sub-result : tie.Need-sub-result
 sub-result c = search needs
 
--- src/lib.rt:34:11
 cast-result-2 : tie.Need-cast-result-2
 cast-result-2 c = search needs
 
--- src/lib.rt:28:1
 returns : tie.Need-returns
 returns c = toZ-signed (c .before .args .bits)
 
--- src/lib.rt:28:1
 returns-2 : tie.Need-returns-2
 returns-2 c = flipped (c .before .args .bits) (c .before .fits .bits .fits)
 
