@@ -86,6 +86,7 @@ pub fn capability_in(bytes: &[u8]) -> [i32; 17]
     words
 }
 
+// From a to z, both taken in.
 fn is_between(a: usize, z: usize, i: usize) -> bool
     ensures { λ r. ⌜ r ≡ between a z i ⌝ }
 {
@@ -174,7 +175,8 @@ fn has_stray_beside_offer(bytes: &[u8], service: u8) -> bool
     }
 }
 
-// 4 "an unused byte not zero": the gaps between the bytes of is_used. With ends that are known, a loop tests 16 bytes at a time.
+// 4 "an unused byte not zero": the gaps between the bytes of is_used.
+// One match, then loops whose ends are constants: a match for each byte took thirty times as long.
 fn has_stray(bytes: &[u8]) -> bool
     requires { ⌜ length (now bytes) ≡ 112 ⌝ }
     ensures { λ r. ⌜ r ≡ has-stray (now (bytes .entry)) ⌝ }

@@ -1,8 +1,7 @@
 -- A word is its four bytes joined, then read as signed.
 -- Both parts have the definition's own form.
-use mathlib.Core.Path.{ap, _∙_}
-use mir.Facts.{toZ-ofZ}
-use Rattle.book_rules.specs.Record.{word-at, signed}
+use Rattle.book_rules.specs.Record.{word-at}
+use Rattle.units.proofs.Signs.{back}
 use borrow.Author.Needs.{needs}
 use Rattle.record.proofs.word_at.Statement.{statement}
 use Rattle.record.proofs.word_at.Tie as tie
@@ -36,7 +35,9 @@ signed-from-requires c κs = search needs
 
 returns : tie.Need-returns
 unfolding word-at
-returns c = toZ-ofZ (record { sfits = c .signed-from .ok }) ∙ c .signed-from .ensures ∙ ap signed (c .before .join-four .ensures)
+returns c =
+    let r = c .signed-from in
+    rw (back (r .result) (r .ok), r .ensures, c .before .join-four .ensures)
 
 pub word-at-spec : {M : Type 1} → statement M
 word-at-spec =
