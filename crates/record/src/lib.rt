@@ -176,7 +176,7 @@ fn has_stray_beside_offer(bytes: &[u8], service: u8) -> bool
 }
 
 // 4 "an unused byte not zero": the gaps between the bytes of is_used.
-// One match, then loops whose ends are constants: a match for each byte took thirty times as long.
+// One match, then loops whose ends are constants: a match for each byte takes thirty times as long.
 fn has_stray(bytes: &[u8]) -> bool
     requires { ⌜ length (now bytes) ≡ 112 ⌝ }
     ensures { λ r. ⌜ r ≡ has-stray (now (bytes .entry)) ⌝ }
