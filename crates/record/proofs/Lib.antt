@@ -1,0 +1,7 @@
+-- Laws that the proofs of the code share: words of bytes, then strays, then numbers.
+-- Each proof of a function stands in the folder of its name.
+pub mod TwosComplement
+pub mod WordLists
+pub mod StrayBytes
+pub mod OfferBytes
+pub mod NumbersDrawn

@@ -1,0 +1,34 @@
+-- Calls 3 and 4 use bytes 6 to 11 or 12 and then those of an offer, by its service.
+-- So their stray bytes are in a gap before byte 13, or beside the offer's from there on.
+use mathlib.Core.Path.{_≡_, ap, _∙_}
+use mathlib.Core.Bool.{Bool, true, false, cond, _&&_, _||_, and-false, or-false}
+use mathlib.Core.List.{List}
+use Prim.Native.Nat.{ℕ, _<_}
+use native.Mathlib.Omega.{arith}
+use lib.Dec.{eqb, ltb, leb}
+use lib.ListN.{length, drop}
+use borrow.Author.Tests.{lt-leb}
+use Rattle.book_rules.specs.Record.{any-stray, between, used-by-offer}
+use Rattle.record.proofs.StrayBytes.{Gap, fit, set-or, stray-or-later, stray-alike}
+
+-- an offer uses no byte before 14
+pub offer-from-14 : (s i : ℕ) → i < 14 → used-by-offer s i ≡ false
+unfolding used-by-offer
+offer-from-14 s i h = go (eqb s 0) (ltb s 4)
+  where
+    go : (e l : Bool) → cond e (between 16 23 i || between 32 111 i) ((l && between 14 15 i) || between 32 71 i) ≡ false
+    go true l = rw (lt-leb 16 i (omega arith), lt-leb 32 i (omega arith))
+    go false true = rw (lt-leb 14 i (omega arith), lt-leb 32 i (omega arith))
+    go false false = rw (lt-leb 32 i (omega arith))
+
+not-past : (a z i : ℕ) → z < i → between a z i ≡ false
+not-past a z i h = rw (lt-leb i z h) (and-false (leb a i))
+
+-- a call that uses bytes 6 to top, top below 13, and an offer's bytes; l are its gaps before byte 13
+pub stray-beside-offer : (f : ℕ → Bool) (s top : ℕ) (b : List ℕ) (l : List Gap) → top < 13 → length b ≡ 112
+    → ((i : ℕ) → f i ≡ (between 6 top i || used-by-offer s i)) → fit (λ i. between 6 top i) 6 13 l ≡ true
+    → any-stray f 6 (drop 6 b) ≡ set-or b l (any-stray (used-by-offer s) 13 (drop 13 b))
+stray-beside-offer f s top b l small n h e =
+    stray-or-later f (λ i. between 6 top i) b 13 (omega arith)
+    (λ i k. h i ∙ ap (λ (y : Bool). between 6 top i || y) (offer-from-14 s i (omega arith)) ∙ or-false (between 6 top i)) 6 l e
+    ∙ ap (set-or b l) (stray-alike f (used-by-offer s) 13 (drop 13 b) (λ i k. h i ∙ ap (λ (x : Bool). x || used-by-offer s i) (not-past 6 top i (omega arith))))

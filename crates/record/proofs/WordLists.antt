@@ -1,0 +1,38 @@
+-- A list filled from the front with a record's words:
+-- a turn of the loop that does it, and its end.
+use mathlib.Core.Path.{_≡_, refl, sym, ap, _∙_}
+use mathlib.Core.List.{List, [], _∷_, _++_, append-nil}
+use Prim.Native.Nat.{ℕ, zero, suc, _+_, _*_, _<_, _≤_}
+use native.Mathlib.Omega.{arith}
+use native.Mathlib.Numerals.{add-one}
+use lib.IntN.{ℤ, pos}
+use lib.ListN.{length, drop, getD, set, drop-of-length-le}
+use lib.Seq.{drop-cons, set-at, append-snoc}
+use Rattle.book_rules.specs.Record.{word-at, words-at}
+
+pub length-words-at : (b : List ℕ) (at n : ℕ) → length (words-at b at n) ≡ n
+unfolding words-at
+length-words-at b at zero = refl
+length-words-at b at (suc n) = ap suc (length-words-at b (at + 4) n)
+
+-- one word more, at the end
+pub words-at-snoc : (b : List ℕ) (at n : ℕ) → words-at b at (suc n) ≡ words-at b at n ++ (word-at b (at + 4 * n) ∷ [])
+unfolding words-at
+words-at-snoc b at zero = let e : at + 4 * 0 ≡ at = omega arith in rw e
+words-at-snoc b at (suc n) =
+    let e : at + 4 + 4 * n ≡ at + 4 * suc n = omega arith in
+    ap (λ (l : List ℤ). word-at b at ∷ l) (words-at-snoc b (at + 4) n ∙ ap (λ (k : ℕ). words-at b (at + 4) n ++ (word-at b k ∷ [])) e)
+
+-- a turn of a loop that writes the words over d
+pub fill-more : (b : List ℕ) (d : List ℤ) (at i : ℕ) → i < length d
+    → set (words-at b at i ++ drop i d) i (word-at b (at + 4 * i)) ≡ words-at b at (i + 1) ++ drop (i + 1) d
+fill-more b d at i h =
+    let w : ℤ = word-at b (at + 4 * i) in
+    ap (λ (r : List ℤ). set (words-at b at i ++ r) i w) (drop-cons d i (pos 0) h)
+    ∙ set-at (words-at b at i) (getD d i (pos 0)) (drop (suc i) d) w i (length-words-at b at i)
+    ∙ sym (append-snoc (words-at b at i) w (drop (suc i) d))
+    ∙ rw (add-one i, words-at-snoc b at i)
+
+-- after its last turn
+pub filled-all : (b : List ℕ) (d : List ℤ) (at i : ℕ) → length d ≤ i → words-at b at i ++ drop i d ≡ words-at b at i
+filled-all b d at i h = rw (drop-of-length-le d h) (append-nil (words-at b at i))
