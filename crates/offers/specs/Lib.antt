@@ -1,0 +1,2 @@
+-- Definitions that only the contracts of this crate's inner functions cite.
+pub mod PairTests
