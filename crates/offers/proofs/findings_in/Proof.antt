@@ -1,60 +1,60 @@
+use borrow.Author.Needs.{needs}
+use native.Mathlib.Omega.{arith}
+use mathlib.Core.Path.{_≡_, refl, sym, _∙_}
+use Prim.Native.Nat.{_≤_, _*_, _-_}
+use lib.ListN.{drop}
+use Rattle.offer_rules.specs.Offer.{pairs-in}
+use Rattle.offers.specs.PairTests.{found-from, found-in}
+use Rattle.offers.proofs.Walks.{found-turn, found-whole}
 use Rattle.offers.proofs.findings_in.Statement.{statement}
 use Rattle.offers.proofs.findings_in.Tie as tie
-use Rattle.offers.proofs.findings_in.Reads as reads
-use Rattle.offers.proofs.findings_in.Lts as lts
-use Rattle.offers.proofs.with_pair.Reads as with-pair-reads
-use Rattle.units.proofs.price_at.Reads as price-at-reads
-use Rattle.units.proofs.quantity_at.Reads as quantity-at-reads
 
 abbrev Inv-loop : tie.InvT-loop
-Inv-loop lowest highest pairs f₀ i₀ f i = ?
+Inv-loop lowest highest pairs f₀ i₀ f i = (i ≤ 10) × (found-from lowest highest f (pairs-in (drop (2 * i) pairs)) ≡ found-in lowest highest (pairs-in pairs))
 
 abbrev μ-loop : tie.MeasureT-loop
-μ-loop lowest highest pairs f₀ i₀ f i = ?
+μ-loop lowest highest pairs f₀ i₀ f i = 10 - i
 
--- src/lib.rt:140:5
 loop-holds : tie.Need-loop-holds Inv-loop μ-loop
-loop-holds c = ?
+loop-holds c = (omega arith, refl)
 
--- src/lib.rt:141:59
 mul-price-at : tie.Need-mul-price-at Inv-loop μ-loop
-mul-price-at c = ?
+mul-price-at c = search needs
 
--- src/lib.rt:141:43
 price-at-requires : tie.Need-price-at-requires Inv-loop μ-loop
-price-at-requires c κs = ?
+price-at-requires c κs = search needs
 
--- src/lib.rt:141:86
 mul-quantity-at : tie.Need-mul-quantity-at Inv-loop μ-loop
-mul-quantity-at c = ?
+mul-quantity-at c = search needs
 
--- src/lib.rt:141:86
 add-quantity-at : tie.Need-add-quantity-at Inv-loop μ-loop
-add-quantity-at c = ?
+add-quantity-at c = search needs
 
--- src/lib.rt:141:67
 quantity-at-requires : tie.Need-quantity-at-requires Inv-loop μ-loop
-quantity-at-requires c κs = ?
+quantity-at-requires c κs = search needs
 
--- src/lib.rt:141:9
 with-pair-requires : tie.Need-with-pair-requires Inv-loop μ-loop
-with-pair-requires c κs = ?
+with-pair-requires c κs = search needs
 
--- src/lib.rt:140:9
 add-i : tie.Need-add-i Inv-loop μ-loop
-add-i c = ?
+add-i c = search needs
 
--- src/lib.rt:140:5
 loop-less : tie.Need-loop-less Inv-loop μ-loop
-loop-less c = ?
+loop-less c = search needs
 
--- src/lib.rt:140:5
 loop-again : tie.Need-loop-again Inv-loop μ-loop
-loop-again c = ?
+loop-again c =
+    let l = c .before .before .before .before in (
+      omega arith,
+      rw (c .with-pair .ensures, c .before .before .price-at .ensures, c .before .quantity-at .ensures,
+        ← found-turn (l .before .args .lowest) (l .before .args .highest) (l .loop .f) (l .before .args .pairs .now) (l .loop .i) (omega arith))
+      (l .loop .inv .1),
+    )
 
--- src/lib.rt:129:1
 returns : tie.Need-returns Inv-loop μ-loop
-returns c = ?
+returns c =
+    let l = c .before in
+    sym (found-whole (l .before .args .lowest) (l .before .args .highest) (l .loop .f) (l .before .args .pairs .now) (2 * l .loop .i) (omega arith)) ∙ l .loop .inv .1
 
 pub findings-in-spec : {M : Type 1} → statement M
 findings-in-spec =

@@ -1,51 +1,62 @@
+use borrow.Author.Needs.{needs}
+use native.Mathlib.Omega.{arith}
+use mathlib.Core.Path.{_≡_, sym, _∙_}
+use Prim.Native.Nat.{_≤_, _*_, _-_}
+use lib.ListN.{drop}
+use lib.IntN.{natAbs, _+ℤ_, +ℤ-idl}
+use lib.Signed.{natAbs-le}
+use mir.Syntax.{w32}
+use mir.Val.{SFits}
+use Rattle.offer_rules.specs.Offer.{pairs-in, sum-of}
+use Rattle.units.proofs.Adding.{abs-add}
+use Rattle.offers.proofs.Pairing.{sum-moves, sum-whole}
 use Rattle.offers.proofs.total_of.Statement.{statement}
 use Rattle.offers.proofs.total_of.Tie as tie
-use Rattle.offers.proofs.total_of.Reads as reads
-use Rattle.offers.proofs.total_of.Lts as lts
-use Rattle.offers.proofs.plus.Reads as plus-reads
-use Rattle.units.proofs.quantity_at.Reads as quantity-at-reads
 
 abbrev Inv-loop : tie.InvT-loop
-Inv-loop pairs total₀ i₀ total i = ?
+Inv-loop pairs total₀ i₀ total i =
+    (i ≤ 10) × (natAbs (total .0) ≤ i * 2147483648) × (total .0 +ℤ sum-of (pairs-in (drop (2 * i) pairs)) ≡ sum-of (pairs-in pairs))
 
 abbrev μ-loop : tie.MeasureT-loop
-μ-loop pairs total₀ i₀ total i = ?
+μ-loop pairs total₀ i₀ total i = 10 - i
 
--- src/lib.rt:57:5
 loop-holds : tie.Need-loop-holds Inv-loop μ-loop
-loop-holds c = ?
+loop-holds c = (omega arith, omega arith, +ℤ-idl (sum-of (pairs-in (c .args .pairs .now))))
 
--- src/lib.rt:58:48
 mul-quantity-at : tie.Need-mul-quantity-at Inv-loop μ-loop
-mul-quantity-at c = ?
+mul-quantity-at c = search needs
 
--- src/lib.rt:58:48
 add-quantity-at : tie.Need-add-quantity-at Inv-loop μ-loop
-add-quantity-at c = ?
+add-quantity-at c = search needs
 
--- src/lib.rt:58:29
 quantity-at-requires : tie.Need-quantity-at-requires Inv-loop μ-loop
-quantity-at-requires c κs = ?
+quantity-at-requires c κs = search needs
 
--- src/lib.rt:58:9
 plus-requires : tie.Need-plus-requires Inv-loop μ-loop
-plus-requires c κs = ?
+plus-requires c κs = search needs
 
--- src/lib.rt:57:9
 add-i : tie.Need-add-i Inv-loop μ-loop
-add-i c = ?
+add-i c = search needs
 
--- src/lib.rt:57:5
 loop-less : tie.Need-loop-less Inv-loop μ-loop
-loop-less c = ?
+loop-less c = search needs
 
--- src/lib.rt:57:5
 loop-again : tie.Need-loop-again Inv-loop μ-loop
-loop-again c = ?
+loop-again c =
+    let l = c .before .before .before in
+    let q = c .before .quantity-at in
+    let f : SFits w32 (q .result .0) = search needs in
+    let e : c .plus .result .0 ≡ l .loop .total .0 +ℤ q .result .0 = c .plus .ensures in (
+      omega arith,
+      rw e (omega (arith, abs-add (l .loop .total .0) (q .result .0), natAbs-le (q .result .0) (f .sfits))),
+      sum-moves (l .loop .total .0) (c .plus .result .0) (l .before .args .pairs .now) (l .loop .i) (omega arith) (e ∙ rw (q .ensures))
+      ∙ l .loop .inv .2,
+    )
 
--- src/lib.rt:52:1
 returns : tie.Need-returns Inv-loop μ-loop
-returns c = ?
+returns c =
+    let l = c .before in
+    (sym (sum-whole (l .loop .total .0) (l .before .args .pairs .now) (2 * l .loop .i) (omega arith)) ∙ l .loop .inv .2, omega arith)
 
 pub total-of-spec : {M : Type 1} → statement M
 total-of-spec =
