@@ -1,12 +1,12 @@
 -- The i-th pair of some words, and their quantities added pair by pair.
 use mathlib.Core.Path.{_≡_, refl, ap, _∙_}
 use mathlib.Core.List.{List, [], _∷_}
-use Prim.Native.Nat.{ℕ, suc, _+_, _*_, _<_, _≤_}
+use Prim.Native.Nat.{ℕ, suc, _+_, _*_, _-_, _<_, _≤_}
 use native.Mathlib.Omega.{arith}
-use lib.ListN.{length, getD, drop, drop-of-length-le}
-use lib.Seq.{drop-cons}
+use lib.ListN.{length, getD, take, drop, length-drop, drop-of-length-le}
+use lib.Seq.{drop-cons, take-all}
 use lib.IntN.{ℤ, pos, _+ℤ_, +ℤ-assoc, +ℤ-idr}
-use Rattle.offer_rules.specs.Offer.{Pair, pairs-in, sum-of}
+use Rattle.offer_rules.specs.Offer.{Pair, pairs-in, pairs, sum-of}
 
 drop-two : (ws : List ℤ) (i : ℕ) → i + 1 < length ws → drop i ws ≡ getD ws i (pos 0) ∷ getD ws (i + 1) (pos 0) ∷ drop (i + 2) ws
 drop-two ws i h =
@@ -27,6 +27,11 @@ pairs-from ws i h = let n : 2 * (i + 1) ≡ 2 * i + 2 = omega arith in rw n (ap 
 pub pairs-end : (ws : List ℤ) (n : ℕ) → length ws ≤ n → pairs-in (drop n ws) ≡ []
 unfolding pairs-in
 pairs-end ws n h = ap pairs-in (drop-of-length-le ws h)
+
+-- the part of an offer from its word 3 on, lent
+pub pairs-lent : (o : List ℤ) → pairs-in (take (length o - 3) (drop 3 o)) ≡ pairs o
+unfolding pairs
+pairs-lent o = ap pairs-in (take-all (length o - 3) (drop 3 o) (omega (arith, length-drop 3 o)))
 
 -- a quantity goes over from the pairs left to the sum
 pub sum-moves : (s r : ℤ) (ws : List ℤ) (i : ℕ) → 2 * i + 1 < length ws → r ≡ s +ℤ getD ws (2 * i + 1) (pos 0)

@@ -28,6 +28,20 @@ unfolding offer-number
 number-picked limits c s reason o =
     six-drawn (out-of-range limits s reason o) (any-pair is-priced-blank (pairs o)) (not (rises (non-blank-prices (pairs o)))) (ramp-refused c s o) (proportion-refused c s o) (above-capacity c s (sum-of (pairs o)))
 
-pub pick-at-most : (t : Bool) {n m k : ℕ} → n ≤ k → m ≤ k → cond t n m ≤ k
+pick-at-most : (t : Bool) {n m k : ℕ} → n ≤ k → m ≤ k → cond t n m ≤ k
 pick-at-most true h g = h
 pick-at-most false h g = g
+
+six-at-most : (a b c d e f : Bool) → six-picked a b c d e f ≤ 16
+six-at-most a b c d e f =
+    pick-at-most a (omega arith)
+    (pick-at-most b (omega arith) (pick-at-most c (omega arith) (pick-at-most d (omega arith) (pick-at-most e (omega arith) (pick-at-most f (omega arith) (omega arith))))))
+
+pub number-at-most : (limits c : List ℤ) (s reason : ℕ) (o : List ℤ) → offer-number limits c s reason o ≤ 16
+number-at-most limits c s reason o =
+    rw (number-picked limits c s reason o)
+    (six-at-most (out-of-range limits s reason o) (any-pair is-priced-blank (pairs o)) (not (rises (non-blank-prices (pairs o)))) (ramp-refused c s o) (proportion-refused c s o) (above-capacity c s (sum-of (pairs o))))
+
+-- 10, and those after it
+pub ten-at-most : (t : Bool) (n : ℕ) → n ≤ 16 → cond t 10 n ≤ 16
+ten-at-most t n h = pick-at-most t (omega arith) h
