@@ -1,2 +1,3 @@
--- Definitions that only the contracts of this crate's inner functions cite.
+-- Definitions that only the contracts of this crate's functions cite.
+pub mod Typed
 pub mod PairTests

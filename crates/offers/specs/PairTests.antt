@@ -20,9 +20,6 @@ outside lowest highest p q = beyond (pos 0) (pos 99999) (q .0) || beyond (lowest
 abbrev pub priced-blank : Price → Quantity → Bool
 priced-blank p q = blank q && not (eqZ (p .0) (pos 0))
 
-abbrev pub pair-of : Price → Quantity → Pair
-pair-of p q = record { price = p .0; quantity = q .0 }
-
 unfoldable pub with-pair : Price → Price → Findings → Price → Quantity → Findings
 with-pair lowest highest f p q = record {
   outside = f .outside || outside lowest highest p q;

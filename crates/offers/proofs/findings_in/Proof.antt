@@ -46,9 +46,13 @@ loop-again : tie.Need-loop-again Inv-loop μ-loop
 loop-again c =
     let l = c .before .before .before .before in (
       omega arith,
-      rw (c .with-pair .ensures, c .before .before .price-at .ensures, c .before .quantity-at .ensures,
-        ← found-turn (l .before .args .lowest) (l .before .args .highest) (l .loop .f) (l .before .args .pairs .now) (l .loop .i) (omega arith))
-      (l .loop .inv .1),
+      rw (
+        c .with-pair .ensures,
+        c .before .before .price-at .ensures,
+        c .before .quantity-at .ensures,
+        ← found-turn (l .before .args .lowest) (l .before .args .highest) (l .loop .f) (l .before .args .pairs .now) (l .loop .i) (omega arith),
+      )
+          (l .loop .inv .1),
     )
 
 returns : tie.Need-returns Inv-loop μ-loop

@@ -31,7 +31,7 @@ returns c =
     let s = c .before .before .before .before in
     let limits = s .args .limits .now in
     let e : c .findings-in .result ≡ found-in (price-of (lowest-price limits (s .args .service))) (price-of (highest-price limits (s .args .service))) (pairs (s .args .offer .now)) =
-        rw (c .findings-in .ensures, c .before .before .before .lowest-price .ensures, c .before .before .highest-price .ensures, pairs-lent (s .args .offer .now)) in
+    rw (c .findings-in .ensures, c .before .before .before .lowest-price .ensures, c .before .before .highest-price .ensures, pairs-lent (s .args .offer .now)) in
     rw e (found-are limits (s .args .service) (pairs (s .args .offer .now)))
 
 pub findings-of-spec : {M : Type 1} → statement M

@@ -11,7 +11,7 @@ is-zero-requires : tie.Need-is-zero-requires
 is-zero-requires c κs = search needs
 
 returns : tie.Need-returns
-returns c = 
+returns c =
     let s = c .before .before .before in
     rw (c .before .before .is-blank .ensures, c .is-zero .ensures, back (s .args .price .0) (omega arith))
 

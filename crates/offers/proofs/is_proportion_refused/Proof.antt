@@ -1,28 +1,14 @@
-use Prim.Native.Nat.{_+_}
-use Rattle.offer_rules.specs.Numbers.{word}
-use Rattle.offer_rules.specs.Offer.{proportion-refused}
+use Rattle.offer_rules.specs.Offer.{kind-of, proportion-refused}
 use Rattle.units.proofs.Signs.{back}
 use borrow.Author.Needs.{needs}
 use Rattle.offers.proofs.is_proportion_refused.Statement.{statement}
 use Rattle.offers.proofs.is_proportion_refused.Tie as tie
 
-add-at : tie.Need-add-at
-add-at c = search needs
+add-proportion-at : tie.Need-add-proportion-at
+add-proportion-at c = search needs
 
-shared-slice-copy-out-is-zero : tie.Need-shared-slice-copy-out-is-zero
-shared-slice-copy-out-is-zero c = search needs
-
-is-zero-requires : tie.Need-is-zero-requires
-is-zero-requires c κs = search needs
-
-mul-refused : tie.Need-mul-refused
-mul-refused c = search needs
-
-shared-slice-copy-out-refused : tie.Need-shared-slice-copy-out-refused
-shared-slice-copy-out-refused c = search needs
-
-shared-slice-copy-out-refused-2 : tie.Need-shared-slice-copy-out-refused-2
-shared-slice-copy-out-refused-2 c = search needs
+proportion-at-requires : tie.Need-proportion-at-requires
+proportion-at-requires c κs = search needs
 
 shared-slice-copy-out-is-generation : tie.Need-shared-slice-copy-out-is-generation
 shared-slice-copy-out-is-generation c = search needs
@@ -30,26 +16,33 @@ shared-slice-copy-out-is-generation c = search needs
 is-generation-requires : tie.Need-is-generation-requires
 is-generation-requires c κs = search needs
 
+proportion-at-requires-2 : tie.Need-proportion-at-requires-2
+proportion-at-requires-2 c κs = search needs
+
+is-none-or-above-requires : tie.Need-is-none-or-above-requires
+is-none-or-above-requires c κs = search needs
+
 returns : tie.Need-returns
 unfolding proportion-refused
 returns c =
-    let d = c .before .before .before .before in
+    let d = c .before .before .before in
     let s = d .before .before in
-    let k = s .args .capability .now in
-    let o = s .args .offer .now in
-    rw (c .is-generation .ensures, d .is-zero .ensures, back (word k 0) (c .before .is-generation-arg .given), back (word o 0) (d .before .is-zero-arg .given),
-      back (word k (8 + s .args .service)) (c .before .before .before .refused .given))
+    rw (
+      c .is-none-or-above .ensures,
+      c .before .proportion-at2 .ensures,
+      d .before .proportion-at .ensures,
+      c .before .before .is-generation .ensures,
+      back (kind-of (s .args .capability .now)) (d .is-generation-arg .given),
+    )
 
 pub is-proportion-refused-spec : {M : Type 1} → statement M
 is-proportion-refused-spec =
     tie.close
     (tie.spec
-    add-at
-    shared-slice-copy-out-is-zero
-    is-zero-requires
-    mul-refused
-    shared-slice-copy-out-refused
-    shared-slice-copy-out-refused-2
+    add-proportion-at
+    proportion-at-requires
     shared-slice-copy-out-is-generation
     is-generation-requires
+    proportion-at-requires-2
+    is-none-or-above-requires
     returns)

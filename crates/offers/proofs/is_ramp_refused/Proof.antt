@@ -1,46 +1,40 @@
-use Rattle.offer_rules.specs.Numbers.{word}
 use Rattle.offer_rules.specs.Offer.{ramp-refused}
-use Rattle.units.proofs.Signs.{back}
 use borrow.Author.Needs.{needs}
 use Rattle.offers.proofs.is_ramp_refused.Statement.{statement}
 use Rattle.offers.proofs.is_ramp_refused.Tie as tie
 
-shared-slice-copy-out-is-beyond : tie.Need-shared-slice-copy-out-is-beyond
-shared-slice-copy-out-is-beyond c = search needs
+ramp-at-requires : tie.Need-ramp-at-requires
+ramp-at-requires c κs = search needs
 
-shared-slice-copy-out-is-beyond-2 : tie.Need-shared-slice-copy-out-is-beyond-2
-shared-slice-copy-out-is-beyond-2 c = search needs
+ramp-at-requires-2 : tie.Need-ramp-at-requires-2
+ramp-at-requires-2 c κs = search needs
 
-is-beyond-requires : tie.Need-is-beyond-requires
-is-beyond-requires c κs = search needs
+is-ramp-beyond-requires : tie.Need-is-ramp-beyond-requires
+is-ramp-beyond-requires c κs = search needs
 
-shared-slice-copy-out-is-beyond-3 : tie.Need-shared-slice-copy-out-is-beyond-3
-shared-slice-copy-out-is-beyond-3 c = search needs
+ramp-at-requires-3 : tie.Need-ramp-at-requires-3
+ramp-at-requires-3 c κs = search needs
 
-shared-slice-copy-out-is-beyond-4 : tie.Need-shared-slice-copy-out-is-beyond-4
-shared-slice-copy-out-is-beyond-4 c = search needs
+ramp-at-requires-4 : tie.Need-ramp-at-requires-4
+ramp-at-requires-4 c κs = search needs
 
-is-beyond-requires-2 : tie.Need-is-beyond-requires-2
-is-beyond-requires-2 c κs = search needs
+is-ramp-beyond-requires-2 : tie.Need-is-ramp-beyond-requires-2
+is-ramp-beyond-requires-2 c κs = search needs
 
 returns : tie.Need-returns
 unfolding ramp-refused
 returns c =
     let d = c .before .before .before in
-    let s = d .before .before .before in
-    let k = s .args .capability .now in
-    let o = s .args .offer .now in
-    rw (d .is-beyond .ensures, c .is-beyond2 .ensures, back (word k 7) (d .before .before .is-beyond-arg .given), back (word o 1) (d .before .is-beyond-arg2 .given),
-      back (word k 8) (c .before .before .is-beyond-arg3 .given), back (word o 2) (c .before .is-beyond-arg4 .given))
+    rw (c .is-ramp-beyond2 .ensures, c .before .ramp-at4 .ensures, c .before .before .ramp-at3 .ensures, d .is-ramp-beyond .ensures, d .before .ramp-at2 .ensures, d .before .before .ramp-at .ensures)
 
 pub is-ramp-refused-spec : {M : Type 1} → statement M
 is-ramp-refused-spec =
     tie.close
     (tie.spec
-    shared-slice-copy-out-is-beyond
-    shared-slice-copy-out-is-beyond-2
-    is-beyond-requires
-    shared-slice-copy-out-is-beyond-3
-    shared-slice-copy-out-is-beyond-4
-    is-beyond-requires-2
+    ramp-at-requires
+    ramp-at-requires-2
+    is-ramp-beyond-requires
+    ramp-at-requires-3
+    ramp-at-requires-4
+    is-ramp-beyond-requires-2
     returns)

@@ -61,11 +61,20 @@ number c =
     let f = t .before .before in
     let s = f .before in
     let o = s .args .offer .now in
-    rw (number-picked (s .args .limits .now) (s .args .capability .now) (s .args .service) (s .args .reason) o,
-      ← f .findings-of .ensures .0, ← f .findings-of .ensures .1, ← f .findings-of .ensures .2,
-      ← x3 .before .is-ramp-refused .ensures, ← x2 .before .is-proportion-refused .ensures,
+    rw (
+      number-picked (s .args .limits .now) (s .args .capability .now) (s .args .service) (s .args .reason) o,
+      ← f .findings-of .ensures .0,
+      ← f .findings-of .ensures .1,
+      ← f .findings-of .ensures .2,
+      ← x3 .before .is-ramp-refused .ensures,
+      ← x2 .before .is-proportion-refused .ensures,
       ← (x1 .before .is-above-capacity .ensures ∙ ap (above-capacity (s .args .capability .now) (s .args .service)) (t .total-of .ensures .0 ∙ ap sum-of (pairs-lent o))),
-      ← x1 .first .ensures, ← x2 .first2 .ensures, ← x3 .first3 .ensures, ← c .before .before .before .first4 .ensures, ← c .before .before .first5 .ensures)
+      ← x1 .first .ensures,
+      ← x2 .first2 .ensures,
+      ← x3 .first3 .ensures,
+      ← c .before .before .before .first4 .ensures,
+      ← c .before .before .first5 .ensures,
+    )
     (c .first6 .ensures)
 
 returns : tie.Need-returns

@@ -4,17 +4,17 @@ use Rattle.offers.proofs.plus.Statement.{statement}
 use Rattle.offers.proofs.plus.Tie as tie
 
 cast-t3 : tie.Need-cast-t3
-cast-t3 c = 
+cast-t3 c =
     let s = c .before .before in
     cast-fits (s .args .sum .0) (s .args .quantity .0) (search needs) (search needs)
 
 add-t4 : tie.Need-add-t4
-add-t4 c = 
+add-t4 c =
     let s = c .before .before .before .before in
     sum-fits (s .args .sum .0) (s .args .quantity .0) (search needs) (search needs) (s .pre)
 
 returns : tie.Need-returns
-returns c = 
+returns c =
     let s = c .before .before .before .before in
     sum-back (s .args .sum .0) (s .args .quantity .0) (search needs) (search needs) (s .pre)
 

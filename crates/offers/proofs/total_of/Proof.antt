@@ -50,7 +50,7 @@ loop-again c =
       omega arith,
       rw e (omega (arith, abs-add (l .loop .total .0) (q .result .0), natAbs-le (q .result .0) (f .sfits))),
       sum-moves (l .loop .total .0) (c .plus .result .0) (l .before .args .pairs .now) (l .loop .i) (omega arith) (e ∙ rw (q .ensures))
-      ∙ l .loop .inv .2,
+          ∙ l .loop .inv .2,
     )
 
 returns : tie.Need-returns Inv-loop μ-loop
