@@ -4,13 +4,12 @@ use mathlib.Core.Bool.{Bool, true, false, not, cond, _&&_, _||_}
 use mathlib.Core.List.{List, [], _∷_}
 use Prim.Native.Nat.{ℕ, _+_, _*_, _<_, _≤_}
 use lib.ListN.{length, drop}
-use lib.IntN.{ℤ, pos}
-use lib.Signed.{ltZ}
+use lib.IntN.{ℤ}
 use Rattle.offer_rules.specs.Offer.{Pair, pairs-in, is-blank, lowest-price, highest-price, any-pair, pair-out-of-range, is-priced-blank, non-blank-prices, rises}
 use Rattle.units.specs.Typed.{price-of, quantity-of}
 use Rattle.units.specs.declared.Price.{Price}
 use Rattle.offers.specs.declared.Findings.{Findings}
-use Rattle.offers.specs.PairTests.{blank, outside, priced-blank, with-pair, none-yet, found-from, found-in}
+use Rattle.offers.specs.PairTests.{still-rises, with-pair, none-yet, found-from, found-in}
 use Rattle.offers.proofs.Pairing.{pair-at, pairs-from, pairs-end}
 
 -- ---- the walk, turn by turn
@@ -67,15 +66,14 @@ rises-none true last = refl
 rises-none false last = refl
 
 -- one pair, blank or not
-rises-on : (r b any : Bool) (last p : Price) (ps : List ℤ)
-    → ((r && (b || (not any || ltZ (last .0) (p .0)))) && rises-after (any || not b) (cond b last p .0) ps)
-    ≡ (r && rises-after any (last .0) (cond b ps (p .0 ∷ ps)))
-unfolding rises
-rises-on false b any last p ps = refl
-rises-on true true true last p ps = refl
-rises-on true true false last p ps = refl
-rises-on true false true last p ps = refl
-rises-on true false false last p ps = refl
+rises-on : (r any : Bool) (last : Price) (b : Bool) (p : Price) (ps : List ℤ)
+    → (still-rises r any last b p && rises-after (any || not b) (cond b last p .0) ps) ≡ (r && rises-after any (last .0) (cond b ps (p .0 ∷ ps)))
+unfolding still-rises rises
+rises-on false any last b p ps = refl
+rises-on true true last true p ps = refl
+rises-on true true last false p ps = refl
+rises-on true false last true p ps = refl
+rises-on true false last false p ps = refl
 
 found-rises : (lowest highest : Price) (f : Findings) (l : List Pair)
     → found-from lowest highest f l .rises ≡ (f .rises && rises-after (f .any) (f .last .0) (non-blank-prices l))
@@ -83,7 +81,7 @@ unfolding found-from with-pair non-blank-prices is-blank
 found-rises lowest highest f [] = and-true (f .rises) ∙ ap (λ (t : Bool). f .rises && t) (rises-none (f .any) (f .last .0))
 found-rises lowest highest f (x ∷ l) =
     found-rises lowest highest (with-pair lowest highest f (price-of (x .price)) (quantity-of (x .quantity))) l
-    ∙ rises-on (f .rises) (is-blank x) (f .any) (f .last) (price-of (x .price)) (non-blank-prices l)
+    ∙ rises-on (f .rises) (f .any) (f .last) (is-blank x) (price-of (x .price)) (non-blank-prices l)
 
 -- ---- the three, of all the pairs
 

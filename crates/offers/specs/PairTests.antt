@@ -20,11 +20,15 @@ outside lowest highest p q = beyond (pos 0) (pos 99999) (q .0) || beyond (lowest
 abbrev pub priced-blank : Price → Quantity → Bool
 priced-blank p q = blank q && not (eqZ (p .0) (pos 0))
 
+-- Whether the prices still rise: a blank pair's isn't looked at, the first of the others is held against none.
+unfoldable pub still-rises : Bool → Bool → Price → Bool → Price → Bool
+still-rises r any last b p = r && (b || (not any || ltZ (last .0) (p .0)))
+
 unfoldable pub with-pair : Price → Price → Findings → Price → Quantity → Findings
 with-pair lowest highest f p q = record {
   outside = f .outside || outside lowest highest p q;
   priced = f .priced || priced-blank p q;
-  rises = f .rises && (blank q || (not (f .any) || ltZ (f .last .0) (p .0)));
+  rises = still-rises (f .rises) (f .any) (f .last) (blank q) p;
   any = f .any || not (blank q);
   last = cond (blank q) (f .last) p;
 }

@@ -11,7 +11,7 @@ ghost use Rattle.offer_rules.specs.Time.{slot-refused, period-refused};
 ghost use Rattle.offer_rules.specs.Offer.{pairs-in, pairs, sum-of, is-generation, lowest-price, highest-price, any-pair, pair-out-of-range, is-priced-blank, non-blank-prices, rises, ramp-refused, proportion-refused, above-capacity, offer-number, standing-rules, variation-rules};
 ghost use Rattle.units.specs.Typed.{price-of};
 ghost use Rattle.offers.specs.Typed.{ramp-of, proportion-of};
-ghost use Rattle.offers.specs.PairTests.{blank, outside, priced-blank, with-pair, found-in};
+ghost use Rattle.offers.specs.PairTests.{blank, outside, priced-blank, still-rises, with-pair, found-in};
 use units::Price;
 use units::Quantity;
 use units::first;
@@ -115,11 +115,11 @@ pub fn is_priced_blank(price: Price, quantity: Quantity) -> bool
     is_blank(quantity) & !is_zero(price.0)
 }
 
-// 13 "strictly rising", from one price to the next
-pub fn is_above(last: Price, price: Price) -> bool
-    ensures { λ r. ⌜ r ≡ ltZ (last .0) (price .0) ⌝ }
+// 13 "prices of non-blank pairs not strictly rising": `any` says whether there is a price before, and `last` is that price.
+pub fn still_rises(rises: bool, any: bool, last: Price, blank: bool, price: Price) -> bool
+    ensures { λ r. ⌜ r ≡ still-rises rises any last blank price ⌝ }
 {
-    last.0 < price.0
+    rises & (blank | (!any | (last.0 < price.0)))
 }
 
 // The price that the next one is held against: a blank's is none.
@@ -153,7 +153,7 @@ fn with_pair(
     Findings {
         outside: f.outside | is_out_of_range(lowest, highest, price, quantity),
         priced: f.priced | is_priced_blank(price, quantity),
-        rises: f.rises & (blank | (!f.any | is_above(last, price))),
+        rises: still_rises(f.rises, f.any, last, blank, price),
         any: f.any | !blank,
         last: last_price(blank, last, price),
     }

@@ -1,5 +1,5 @@
-use Rattle.offers.specs.PairTests.{with-pair}
 use borrow.Author.Needs.{needs}
+use Rattle.offers.specs.PairTests.{with-pair}
 use Rattle.offers.proofs.with_pair.Statement.{statement}
 use Rattle.offers.proofs.with_pair.Tie as tie
 
@@ -12,8 +12,8 @@ is-out-of-range-requires c κs = search needs
 is-priced-blank-requires : tie.Need-is-priced-blank-requires
 is-priced-blank-requires c κs = search needs
 
-is-above-requires : tie.Need-is-above-requires
-is-above-requires c κs = search needs
+still-rises-requires : tie.Need-still-rises-requires
+still-rises-requires c κs = search needs
 
 last-price-requires : tie.Need-last-price-requires
 last-price-requires c κs = search needs
@@ -21,9 +21,9 @@ last-price-requires c κs = search needs
 returns : tie.Need-returns
 unfolding with-pair
 returns c =
-    let d = c .before .before .before in
-    let e = d .before .before .before in
-    rw (c .last-price .ensures, d .is-above .ensures, e .is-priced-blank .ensures, e .before .before .is-out-of-range .ensures, e .before .before .before .before .is-blank .ensures)
+    let d = c .before .before in
+    let e = d .before .before in
+    rw (c .last-price .ensures, d .still-rises .ensures, e .is-priced-blank .ensures, e .before .before .is-out-of-range .ensures, e .before .before .before .before .is-blank .ensures)
 
 pub with-pair-spec : {M : Type 1} → statement M
 with-pair-spec =
@@ -32,6 +32,6 @@ with-pair-spec =
     is-blank-requires
     is-out-of-range-requires
     is-priced-blank-requires
-    is-above-requires
+    still-rises-requires
     last-price-requires
     returns)
