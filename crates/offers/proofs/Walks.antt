@@ -44,7 +44,7 @@ found-outside limits s f (x ∷ l) =
 
 found-priced : (lowest highest : Price) (f : Findings) (l : List Pair)
     → found-from lowest highest f l .priced ≡ (f .priced || any-pair is-priced-blank l)
-unfolding found-from with-pair any-pair is-priced-blank is-blank
+unfolding found-from with-pair any-pair
 found-priced lowest highest f [] = or-false (f .priced)
 found-priced lowest highest f (x ∷ l) =
     found-priced lowest highest (with-pair lowest highest f (price-of (x .price)) (quantity-of (x .quantity))) l

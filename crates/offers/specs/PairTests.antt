@@ -5,20 +5,20 @@ use mathlib.Core.List.{List, [], _∷_}
 use lib.IntN.{ℤ, pos}
 use lib.Signed.{ltZ}
 use Rattle.offer_rules.specs.Numbers.{eqZ, beyond}
-use Rattle.offer_rules.specs.Offer.{Pair}
+use Rattle.offer_rules.specs.Offer.{Pair, is-priced-blank}
 use Rattle.units.specs.Typed.{price-of, quantity-of}
 use Rattle.units.specs.declared.Price.{Price}
 use Rattle.units.specs.declared.Quantity.{Quantity}
 use Rattle.offers.specs.declared.Findings.{Findings}
+
+abbrev pub pair-of : Price → Quantity → Pair
+pair-of p q = record { price = p .0; quantity = q .0 }
 
 abbrev pub blank : Quantity → Bool
 blank q = eqZ (q .0) (pos 0)
 
 abbrev pub outside : Price → Price → Price → Quantity → Bool
 outside lowest highest p q = beyond (pos 0) (pos 99999) (q .0) || beyond (lowest .0) (highest .0) (p .0)
-
-abbrev pub priced-blank : Price → Quantity → Bool
-priced-blank p q = blank q && not (eqZ (p .0) (pos 0))
 
 -- Whether the prices still rise: a blank pair's isn't looked at, the first of the others is held against none.
 unfoldable pub still-rises : Bool → Bool → Price → Bool → Price → Bool
@@ -27,7 +27,7 @@ still-rises r any last b p = r && (b || (not any || ltZ (last .0) (p .0)))
 unfoldable pub with-pair : Price → Price → Findings → Price → Quantity → Findings
 with-pair lowest highest f p q = record {
   outside = f .outside || outside lowest highest p q;
-  priced = f .priced || priced-blank p q;
+  priced = f .priced || is-priced-blank (pair-of p q);
   rises = still-rises (f .rises) (f .any) (f .last) (blank q) p;
   any = f .any || not (blank q);
   last = cond (blank q) (f .last) p;

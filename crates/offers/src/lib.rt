@@ -11,7 +11,7 @@ ghost use Rattle.offer_rules.specs.Time.{slot-refused, period-refused};
 ghost use Rattle.offer_rules.specs.Offer.{pairs-in, pairs, sum-of, is-generation, lowest-price, highest-price, any-pair, pair-out-of-range, is-priced-blank, non-blank-prices, rises, ramp-refused, proportion-refused, above-capacity, offer-number, standing-rules, variation-rules};
 ghost use Rattle.units.specs.Typed.{price-of};
 ghost use Rattle.offers.specs.Typed.{ramp-of, proportion-of};
-ghost use Rattle.offers.specs.PairTests.{blank, outside, priced-blank, still-rises, with-pair, found-in};
+ghost use Rattle.offers.specs.PairTests.{pair-of, blank, outside, still-rises, with-pair, found-in};
 use units::Price;
 use units::Quantity;
 use units::first;
@@ -110,7 +110,7 @@ pub fn is_out_of_range(lowest: Price, highest: Price, price: Price, quantity: Qu
 
 // 12 "blank pair with a price"
 pub fn is_priced_blank(price: Price, quantity: Quantity) -> bool
-    ensures { λ r. ⌜ r ≡ priced-blank price quantity ⌝ }
+    ensures { λ r. ⌜ r ≡ is-priced-blank (pair-of price quantity) ⌝ }
 {
     is_blank(quantity) & !is_zero(price.0)
 }
