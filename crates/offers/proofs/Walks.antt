@@ -8,7 +8,7 @@ use lib.IntN.{ℤ}
 use Rattle.offer_rules.specs.Offer.{Pair, pairs-in, is-blank, lowest-price, highest-price, any-pair, pair-out-of-range, is-priced-blank, non-blank-prices, rises}
 use Rattle.units.specs.Typed.{price-of, quantity-of}
 use Rattle.units.specs.declared.Price.{Price}
-use Rattle.offers.specs.declared.Findings.{Findings}
+use Rattle.offers.specs.declared.pairs.Findings.{Findings}
 use Rattle.offers.specs.PairTests.{still-rises, with-pair, none-yet, found-from, found-in}
 use Rattle.offers.proofs.Pairing.{pair-at, pairs-from, pairs-end}
 

@@ -9,7 +9,7 @@ use Rattle.offer_rules.specs.Offer.{Pair, is-priced-blank}
 use Rattle.units.specs.Typed.{price-of, quantity-of}
 use Rattle.units.specs.declared.Price.{Price}
 use Rattle.units.specs.declared.Quantity.{Quantity}
-use Rattle.offers.specs.declared.Findings.{Findings}
+use Rattle.offers.specs.declared.pairs.Findings.{Findings}
 
 abbrev pub pair-of : Price → Quantity → Pair
 pair-of p q = record { price = p .0; quantity = q .0 }
