@@ -1,0 +1,47 @@
+-- The rules' numbers as the code picks them, test by test.
+use mathlib.Core.Path.{_≡_, refl}
+use mathlib.Core.Bool.{Bool, true, false, not, cond}
+use mathlib.Core.List.{List}
+use Prim.Native.Nat.{ℕ, _≤_}
+use native.Mathlib.Omega.{arith}
+use lib.IntN.{ℤ}
+use Rattle.offer_rules.specs.Numbers.{draw, _then_}
+use Rattle.offer_rules.specs.Offer.{pairs, sum-of, any-pair, out-of-range, is-priced-blank, non-blank-prices, rises, ramp-refused, proportion-refused, above-capacity, offer-number}
+
+abbrev six-picked : Bool → Bool → Bool → Bool → Bool → Bool → ℕ
+six-picked a b c d e f = cond a 11 (cond b 12 (cond c 13 (cond d 14 (cond e 15 (cond f 16 0)))))
+
+six-drawn : (a b c d e f : Bool) → (draw a 11 then draw b 12 then draw c 13 then draw d 14 then draw e 15 then draw f 16) ≡ six-picked a b c d e f
+unfolding draw _then_
+six-drawn true b c d e f = refl
+six-drawn false true c d e f = refl
+six-drawn false false true d e f = refl
+six-drawn false false false true e f = refl
+six-drawn false false false false true f = refl
+six-drawn false false false false false true = refl
+six-drawn false false false false false false = refl
+
+-- 11 to 16
+pub number-picked : (limits c : List ℤ) (s reason : ℕ) (o : List ℤ) → offer-number limits c s reason o
+    ≡ six-picked (out-of-range limits s reason o) (any-pair is-priced-blank (pairs o)) (not (rises (non-blank-prices (pairs o)))) (ramp-refused c s o) (proportion-refused c s o) (above-capacity c s (sum-of (pairs o)))
+unfolding offer-number
+number-picked limits c s reason o =
+    six-drawn (out-of-range limits s reason o) (any-pair is-priced-blank (pairs o)) (not (rises (non-blank-prices (pairs o)))) (ramp-refused c s o) (proportion-refused c s o) (above-capacity c s (sum-of (pairs o)))
+
+pick-at-most : (t : Bool) {n m k : ℕ} → n ≤ k → m ≤ k → cond t n m ≤ k
+pick-at-most true h g = h
+pick-at-most false h g = g
+
+six-at-most : (a b c d e f : Bool) → six-picked a b c d e f ≤ 16
+six-at-most a b c d e f =
+    pick-at-most a (omega arith)
+    (pick-at-most b (omega arith) (pick-at-most c (omega arith) (pick-at-most d (omega arith) (pick-at-most e (omega arith) (pick-at-most f (omega arith) (omega arith))))))
+
+pub number-at-most : (limits c : List ℤ) (s reason : ℕ) (o : List ℤ) → offer-number limits c s reason o ≤ 16
+number-at-most limits c s reason o =
+    rw (number-picked limits c s reason o)
+    (six-at-most (out-of-range limits s reason o) (any-pair is-priced-blank (pairs o)) (not (rises (non-blank-prices (pairs o)))) (ramp-refused c s o) (proportion-refused c s o) (above-capacity c s (sum-of (pairs o))))
+
+-- 10, and those after it
+pub ten-at-most : (t : Bool) (n : ℕ) → n ≤ 16 → cond t 10 n ≤ 16
+ten-at-most t n h = pick-at-most t (omega arith) h

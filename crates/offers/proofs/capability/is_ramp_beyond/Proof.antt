@@ -1,0 +1,16 @@
+use native.Mathlib.Omega.{arith}
+use Rattle.units.proofs.Signs.{back}
+use borrow.Author.Needs.{needs}
+use Rattle.offers.proofs.capability.is_ramp_beyond.Statement.{statement}
+use Rattle.offers.proofs.capability.is_ramp_beyond.Tie as tie
+
+is-beyond-requires : tie.Need-is-beyond-requires
+is-beyond-requires c κs = search needs
+
+returns : tie.Need-returns
+returns c =
+    let s = c .before .before .before in
+    rw (c .is-beyond .ensures, back (s .args .maximum .0) (omega arith), back (s .args .ramp .0) (omega arith))
+
+pub is-ramp-beyond-spec : {M : Type 1} → statement M
+is-ramp-beyond-spec = tie.close (tie.spec is-beyond-requires returns)

@@ -1,0 +1,3 @@
+-- Definitions that only the contracts of this crate's functions cite.
+pub mod Typed
+pub mod PairTests

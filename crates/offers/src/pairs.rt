@@ -1,0 +1,165 @@
+// The pairs of an offer: ten quantities added, and the tests of refusals 11 to 13.
+// Prices and quantities have types of their own, so that neither is taken for the other.
+ghost use mathlib.Core.Path.{_≡_};
+ghost use mathlib.Core.Bool.{cond};
+ghost use Prim.Native.Nat.{_≤_};
+ghost use lib.IntN.{natAbs, _+ℤ_};
+ghost use lib.ListN.{length};
+ghost use Rattle.offer_rules.specs.Offer.{pairs-in, pairs, sum-of, lowest-price, highest-price, any-pair, pair-out-of-range, is-priced-blank, non-blank-prices, rises};
+ghost use Rattle.units.specs.Typed.{price-of};
+ghost use Rattle.offers.specs.PairTests.{pair-of, blank, outside, still-rises, with-pair, found-in};
+use units::Price;
+use units::Quantity;
+use units::is_beyond;
+use units::is_zero;
+use units::price_at;
+use units::quantity_at;
+
+// ---- ten quantities added
+
+// Tenths of a MW, added.
+pub struct Sum(pub i64);
+
+pub fn plus(sum: Sum, quantity: Quantity) -> Sum
+    requires { ⌜ natAbs (sum .0) ≤ 4611686018427387904 ⌝ }
+    ensures { λ r. ⌜ r .0 ≡ sum .0 +ℤ quantity .0 ⌝ }
+{
+    Sum(sum.0 + quantity.0 as i64)
+}
+
+pub fn total_of(pairs: &[i32]) -> Sum
+    requires { ⌜ length (now pairs) ≡ 20 ⌝ }
+    ensures { λ r. ⌜ (r .0 ≡ sum-of (pairs-in (now (pairs .entry)))) × (natAbs (r .0) ≤ 21474836480) ⌝ }
+{
+    let mut total = Sum(0);
+    for i in 0..10usize {
+        total = plus(total, quantity_at(pairs, 2 * i + 1));
+    }
+    total
+}
+
+pub fn sum_of(pairs: &[i32]) -> i64
+    requires { ⌜ length (now pairs) ≡ 20 ⌝ }
+    ensures { λ r. ⌜ (r ≡ sum-of (pairs-in (now (pairs .entry)))) × (natAbs r ≤ 21474836480) ⌝ }
+{
+    total_of(pairs).0
+}
+
+// ---- 11 to 13: the pairs
+
+pub fn is_blank(quantity: Quantity) -> bool
+    ensures { λ r. ⌜ r ≡ blank quantity ⌝ }
+{
+    is_zero(quantity.0)
+}
+
+// 11 "quantity outside 0–99,999, price outside its limits"
+pub fn is_out_of_range(lowest: Price, highest: Price, price: Price, quantity: Quantity) -> bool
+    ensures { λ r. ⌜ r ≡ outside lowest highest price quantity ⌝ }
+{
+    is_beyond(0, 99999, quantity.0) | is_beyond(lowest.0, highest.0, price.0)
+}
+
+// 12 "blank pair with a price"
+pub fn is_priced_blank(price: Price, quantity: Quantity) -> bool
+    ensures { λ r. ⌜ r ≡ is-priced-blank (pair-of price quantity) ⌝ }
+{
+    is_blank(quantity) & !is_zero(price.0)
+}
+
+// 13 "prices of non-blank pairs not strictly rising": `any` says whether there is a price before, and `last` is that price.
+pub fn still_rises(rises: bool, any: bool, last: Price, blank: bool, price: Price) -> bool
+    ensures { λ r. ⌜ r ≡ still-rises rises any last blank price ⌝ }
+{
+    rises & (blank | (!any | (last.0 < price.0)))
+}
+
+// The price that the next one is held against: a blank's is none.
+fn last_price(blank: bool, last: Price, price: Price) -> Price
+    ensures { λ r. ⌜ r ≡ cond blank last price ⌝ }
+{
+    if blank { last } else { price }
+}
+
+// What the pairs up to some place have shown; `last` is the price of the last that isn't blank, if there is any.
+pub struct Findings {
+    pub outside: bool,
+    pub priced: bool,
+    pub rises: bool,
+    pub any: bool,
+    pub last: Price,
+}
+
+// One pair more.
+fn with_pair(
+    f: Findings,
+    lowest: Price,
+    highest: Price,
+    price: Price,
+    quantity: Quantity,
+) -> Findings
+    ensures { λ r. ⌜ r ≡ with-pair lowest highest f price quantity ⌝ }
+{
+    let blank = is_blank(quantity);
+    let last = f.last;
+    Findings {
+        outside: f.outside | is_out_of_range(lowest, highest, price, quantity),
+        priced: f.priced | is_priced_blank(price, quantity),
+        rises: still_rises(f.rises, f.any, last, blank, price),
+        any: f.any | !blank,
+        last: last_price(blank, last, price),
+    }
+}
+
+fn findings_in(lowest: Price, highest: Price, pairs: &[i32]) -> Findings
+    requires { ⌜ length (now pairs) ≡ 20 ⌝ }
+    ensures { λ r. ⌜ r ≡ found-in lowest highest (pairs-in (now (pairs .entry))) ⌝ }
+{
+    let mut f = Findings {
+        outside: false,
+        priced: false,
+        rises: true,
+        any: false,
+        last: Price(0),
+    };
+    for i in 0..10usize {
+        f = with_pair(
+            f,
+            lowest,
+            highest,
+            price_at(pairs, 2 * i),
+            quantity_at(pairs, 2 * i + 1),
+        );
+    }
+    f
+}
+
+// "services 1–4 from 0"
+fn lowest_price(limits: &[i32], service: u8) -> Price
+    requires { ⌜ length (now limits) ≡ 6 ⌝ }
+    ensures { λ r. ⌜ r ≡ price-of (lowest-price (now (limits .entry)) service) ⌝ }
+{
+    if service == 0 {
+        price_at(limits, 0)
+    } else {
+        Price(0)
+    }
+}
+
+fn highest_price(limits: &[i32], service: u8) -> Price
+    requires { ⌜ (length (now limits) ≡ 6) × (service ≤ 4) ⌝ }
+    ensures { λ r. ⌜ r ≡ price-of (highest-price (now (limits .entry)) service) ⌝ }
+{
+    price_at(limits, 1 + service as usize)
+}
+
+pub fn findings_of(limits: &[i32], service: u8, offer: &[i32]) -> Findings
+    requires { ⌜ (length (now limits) ≡ 6) × (service ≤ 4) × (length (now offer) ≡ 23) ⌝ }
+    ensures { λ r. ⌜ (r .outside ≡ any-pair (pair-out-of-range (now (limits .entry)) service) (pairs (now (offer .entry)))) × (r .priced ≡ any-pair is-priced-blank (pairs (now (offer .entry)))) × (r .rises ≡ rises (non-blank-prices (pairs (now (offer .entry))))) ⌝ }
+{
+    findings_in(
+        lowest_price(limits, service),
+        highest_price(limits, service),
+        &offer[3..],
+    )
+}
