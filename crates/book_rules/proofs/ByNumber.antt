@@ -13,7 +13,7 @@ use borrow.Author.Tests.{eqb-true, eqb-false, eq-eqb, ne-eqb, not-false}
 use Rattle.offer_rules.specs.Numbers.{toNat, draw, _then_}
 use Rattle.offer_rules.specs.Offer.{standing-rules, variation-rules, offer-number}
 use Rattle.offer_rules.specs.Gate.{standing-gate-refuses}
-use Rattle.offer_rules.proofs.Drawn.{then-eq, then-zero, draw-zero}
+use Rattle.offer_rules.proofs.Drawn.{then-eq, then-zero, draw-zero, then-assoc}
 use Rattle.book_rules.specs.Record.{call-of, facility-of, service-of, period-word, reason-of, offer-in, is-record, outside, has-stray, record-number}
 use Rattle.book_rules.specs.Words.{is-book}
 use Rattle.book_rules.specs.Force.{View, Answer, plain}
@@ -46,14 +46,6 @@ last-drawn n = go (eqb n 0) refl
     go : (t : Bool) → eqb n 0 ≡ t → cond t 0 n ≡ n
     go true e = sym (eqb-true n 0 e)
     go false e = refl
-
-then-assoc : (a b c : ℕ) → ((a then b) then c) ≡ (a then (b then c))
-unfolding _then_
-then-assoc a b c = go (eqb a 0) refl
-  where
-    go : (t : Bool) → eqb a 0 ≡ t → cond (eqb (cond t b a) 0) c (cond t b a) ≡ cond t (cond (eqb b 0) c b) a
-    go true e = refl
-    go false e = rw e
 
 -- ---- each call
 

@@ -7,12 +7,11 @@ use Prim.Native.Nat.{ℕ, zero, suc, _+_, _/_}
 use lib.Dec.{leb, eqb}
 use lib.IntN.{ℤ, pos}
 use lib.Signed.{leZ}
-use Rattle.offer_rules.specs.Numbers.{eqZ, toNat, word, beyond, draw, _then_}
+use Rattle.offer_rules.specs.Numbers.{eqZ, toNat, word, beyond, any-beyond, draw, _then_}
 use Rattle.offer_rules.specs.Time.{period-refused}
 use Rattle.offer_rules.specs.Offer.{kind-of, is-generation, is-load, mark-for, pairs, standing-rules, variation-rules}
 use Rattle.offer_rules.specs.Gate.{Window, Grounds, gate-refuses, standing-gate-refuses}
 use Rattle.book_rules.specs.Record.{call-of, facility-of, service-of, period-word, reason-of, word-A, word-B, capability-in, offer-in, between, record-number}
-use Rattle.book_rules.specs.Words.{any-beyond}
 use Rattle.book_rules.specs.Force.{View, InForce, in-force, pairs-of, counted, count-in-force, sum-in-force, Answer, plain, found, totalled}
 
 -- 5 "facility has kind neither 1 nor 2 in the book (calls 3, 4, 5, 8)"

@@ -6,7 +6,7 @@ use lib.Dec.{leb, eqb}
 use lib.IntN.{ℤ, pos, negsuc}
 use lib.Signed.{leZ}
 use lib.ListN.{length, take, drop, replicate}
-use Rattle.offer_rules.specs.Numbers.{eqZ, toNat, word, beyond, draw}
+use Rattle.offer_rules.specs.Numbers.{eqZ, toNat, word, beyond, any-beyond, draw}
 use Rattle.book_rules.specs.Record.{sizes-ok}
 
 -- n words from a on.
@@ -75,11 +75,6 @@ is-book w =
     && (leb (book-size (toNat (word w 2)) (toNat (word w 3))) (length w) && not (beyond (pos 0) (pos 1000000000) (word w clock-place)))
 
 -- ---- the opening
-
--- Any of n words from word i on outside lo to hi.
-unfoldable pub any-beyond : ℤ → ℤ → List ℤ → ℕ → ℕ → Bool
-any-beyond lo hi l i zero = false
-any-beyond lo hi l i (suc n) = beyond lo hi (word l i) || any-beyond lo hi l (suc i) n
 
 -- 20 "a limit beyond ±10,000,000, or not lowest ≤ 0 ≤ highest; 0 ≤ highest for services 1–4"; the six limits are head words 11 to 16
 unfoldable pub limits-ok : List ℤ → Bool

@@ -43,3 +43,11 @@ pub draw-zero : (b : Bool) (n : ℕ) → 0 < n → draw b n ≡ 0 → b ≡ fals
 unfolding draw
 draw-zero true n h e = absurd (omega arith)
 draw-zero false n h e = refl
+
+pub then-assoc : (a b c : ℕ) → ((a then b) then c) ≡ (a then (b then c))
+unfolding _then_
+then-assoc a b c = go (eqb a 0) refl
+  where
+    go : (t : Bool) → eqb a 0 ≡ t → cond (eqb (cond t b a) 0) c (cond t b a) ≡ cond t (cond (eqb b 0) c b) a
+    go true e = refl
+    go false e = rw e

@@ -1,7 +1,7 @@
 -- Signed words as numbers, and how a refusal number is drawn.
 use mathlib.Core.Bool.{Bool, true, false, cond, _||_}
 use mathlib.Core.List.{List}
-use Prim.Native.Nat.{ℕ}
+use Prim.Native.Nat.{ℕ, zero, suc}
 use lib.Dec.{eqb}
 use lib.IntN.{ℤ, pos, negsuc}
 use lib.Signed.{ltZ}
@@ -25,6 +25,11 @@ word l i = getD l i (pos 0)
 -- Outside lo to hi.
 abbrev pub beyond : ℤ → ℤ → ℤ → Bool
 beyond lo hi z = ltZ z lo || ltZ hi z
+
+-- Any of n words from word i on outside lo to hi.
+unfoldable pub any-beyond : ℤ → ℤ → List ℤ → ℕ → ℕ → Bool
+any-beyond lo hi l i zero = false
+any-beyond lo hi l i (suc n) = beyond lo hi (word l i) || any-beyond lo hi l (suc i) n
 
 -- "Tests run in rising order; the lowest that applies is returned."
 -- The number n where a test applies, else 0; and the first number drawn, where 0 is none.

@@ -4,3 +4,4 @@ pub mod Signs
 pub mod Adding
 pub mod Copying
 pub mod Chains
+pub mod WordByWord

@@ -1,10 +1,10 @@
-// Prices and quantities as types of their own, signed words as counts, and the drawing of a refusal number.
+// Prices and quantities as types of their own, signed words as counts, tests and copies of words, and the drawing of a refusal number.
 ghost use mathlib.Core.Path.{_≡_};
 ghost use mathlib.Core.Bool.{cond};
-ghost use Prim.Native.Nat.{_<_};
+ghost use Prim.Native.Nat.{_+_, _≤_, _<_};
 ghost use lib.IntN.{pos};
 ghost use lib.ListN.{length, getD};
-ghost use Rattle.offer_rules.specs.Numbers.{toNat, eqZ, beyond};
+ghost use Rattle.offer_rules.specs.Numbers.{toNat, eqZ, word, beyond, any-beyond};
 ghost use Rattle.units.specs.Typed.{price-of, quantity-of};
 
 // Whole cents per MWh.
@@ -44,6 +44,12 @@ pub fn is_beyond(lo: i32, hi: i32, x: i32) -> bool
     (x < lo) | (hi < x)
 }
 
+pub fn is_equal(a: i32, b: i32) -> bool
+    ensures { λ r. ⌜ r ≡ eqZ a b ⌝ }
+{
+    a == b
+}
+
 pub fn is_zero(x: i32) -> bool
     ensures { λ r. ⌜ r ≡ eqZ x (pos 0) ⌝ }
 {
@@ -55,4 +61,36 @@ pub fn first(applies: bool, n: u8, rest: u8) -> u8
     ensures { λ r. ⌜ r ≡ cond applies n rest ⌝ }
 {
     if applies { n } else { rest }
+}
+
+// ---- words
+
+fn is_word_beyond(words: &[i32], at: usize, lo: i32, hi: i32) -> bool
+    requires { ⌜ at < length (now words) ⌝ }
+    ensures { λ r. ⌜ r ≡ beyond lo hi (word (now (words .entry)) at) ⌝ }
+{
+    is_beyond(lo, hi, words[at])
+}
+
+// Any of the words outside lo to hi, `count` of them from `from` on.
+pub fn any_beyond(words: &[i32], from: usize, count: usize, lo: i32, hi: i32) -> bool
+    requires { ⌜ from + count ≤ length (now words) ⌝ }
+    ensures { λ r. ⌜ r ≡ any-beyond lo hi (now (words .entry)) from count ⌝ }
+{
+    let mut any = false;
+    for i in 0..count {
+        any = any | is_word_beyond(words, from + i, lo, hi);
+    }
+    any
+}
+
+// Copies words from the first to the last.
+pub fn copy_words(to: &mut [i32], from: &[i32])
+    requires { ⌜ length (now to) ≡ length (now from) ⌝ }
+    ensures { λ _. ⌜ now (to .exit) ≡ now (from .entry) ⌝ }
+{
+    let n = from.len();
+    for i in 0..n {
+        to[i] = from[i];
+    }
 }

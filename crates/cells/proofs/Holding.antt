@@ -1,0 +1,90 @@
+-- What a cell's words hold, read at the cell's place in the book.
+use mathlib.Core.Path.{_≡_, refl, sym, ap, ap₂, _∙_}
+use mathlib.Core.Bool.{cond}
+use mathlib.Core.List.{List, [], _∷_}
+use mathlib.Core.Option.{Option, none, some}
+use Prim.Native.Nat.{ℕ, _+_, _-_, _≤_}
+use native.Mathlib.Omega.{arith}
+use native.Mathlib.Nat.{add-zero}
+use lib.IntN.{ℤ, pos}
+use lib.ListN.{length, take, drop, set}
+use lib.Seq.{drop-drop, set-split}
+use Rattle.offer_rules.specs.Numbers.{eqZ, word}
+use Rattle.offer_rules.specs.Time.{slot-of}
+use Rattle.offer_rules.specs.Offer.{pairs-in, pairs}
+use Rattle.book_rules.specs.Words.{part, cell-place, standing-half, variation-half, standing-stamp, variation-stamp}
+use Rattle.book_rules.specs.Force.{no-offer, standing-offer, offer-variation, first-of}
+use Rattle.book_rules.specs.Book.{facilities-in, services-in, held, book-view}
+use Rattle.book_rules.proofs.Parts.{word-of-part, length-part}
+use Rattle.cells.specs.declared.InForce as place
+use Rattle.cells.specs.declared.InForce.the-variants.{Standing, Variation}
+use Rattle.cells.specs.Meaning.{Sized, offer-at, end-of}
+
+-- The offer at a place, where the word there is the stamp.
+abbrev pub stamped-at : ℕ → List ℤ → ℕ → Option (List ℤ)
+stamped-at stamp w at = cond (eqZ (word w at) (pos stamp)) (some (offer-at w at)) none
+
+held-at : (stamp : ℕ) (w : List ℤ) (at : ℕ) → held stamp (part at 24 w) ≡ stamped-at stamp w at
+unfolding held offer-at
+held-at stamp w at =
+    let e : word (part at 24 w) 0 ≡ word w at = word-of-part at 24 0 w (omega arith) ∙ ap (word w) (add-zero at) in
+    rw e
+
+module _ (w : List ℤ) (F S f s : ℕ) (z : Sized w F S) where
+  place-is : (h k at : ℕ) → at ≡ cell-place F S f s h k → cell-place (facilities-in w) (services-in w) f s h k ≡ at
+  place-is h k at e = ap₂ (λ (x y : ℕ). cell-place x y f s h k) (sym (z .facilities-held)) (sym (z .services-held)) ∙ sym e
+
+  pub standing-held : (k at : ℕ) → at ≡ cell-place F S f s standing-half k → book-view w .standing f s k ≡ stamped-at standing-stamp w at
+  unfolding book-view
+  standing-held k at e = ap (λ (a : ℕ). held standing-stamp (part a 24 w)) (place-is standing-half k at e) ∙ held-at standing-stamp w at
+
+  pub variation-held : (p at : ℕ) → at ≡ cell-place F S f s variation-half (slot-of p) → book-view w .variation f s p ≡ stamped-at (variation-stamp p) w at
+  unfolding book-view
+  variation-held p at e =
+      ap (λ (a : ℕ). held (variation-stamp p) (part a 24 w)) (place-is variation-half (slot-of p) at e) ∙ held-at (variation-stamp p) w at
+
+-- A cell that a case names lies in the words.
+pub standing-inside : (x : place.InForce) (at n : ℕ) → x ≡ Standing at → end-of x ≤ n → at + 24 ≤ n
+unfolding end-of
+standing-inside x at n e h = rw e at h
+
+pub variation-inside : (x : place.InForce) (at n : ℕ) → x ≡ Variation at → end-of x ≤ n → at + 24 ≤ n
+unfolding end-of
+variation-inside x at n e h = rw e at h
+
+-- What a standing cell holds, from the offer that is in force where there is no variation.
+pub no-standing : (o : Option (List ℤ)) → no-offer ≡ first-of none o → o ≡ none
+unfolding first-of
+no-standing none e = refl
+no-standing (some x) e = let z : _≡_ {A = ℕ} 0 1 = cc e in absurd (omega arith)
+
+pub a-standing : (o : Option (List ℤ)) (l : List ℤ) → standing-offer l ≡ first-of none o → o ≡ some l
+unfolding first-of
+a-standing none l e = let z : _≡_ {A = ℕ} 0 1 = cc e in absurd (omega arith)
+a-standing (some x) l e = let h : x ≡ l = cc e in ap some h
+
+pub never-a-variation : (o : Option (List ℤ)) (l : List ℤ) → offer-variation l ≡ first-of none o → ⊥
+unfolding first-of
+never-a-variation none l e = let z : _≡_ {A = ℕ} 0 1 = cc e in omega arith
+never-a-variation (some x) l e = let z : _≡_ {A = ℕ} 0 1 = cc e in omega arith
+
+-- ---- a cell's parts
+
+-- Words 4 to 23 are the pairs of its offer.
+pub pairs-at : (w : List ℤ) (at : ℕ) → pairs-in (part (at + 4) 20 w) ≡ pairs (offer-at w at)
+unfolding pairs offer-at part
+pairs-at w at = ap pairs-in (ap (take 20) (sym (drop-drop 4 at w)) ∙ sym (past-four (drop at w)))
+  where
+    past-four : (l : List ℤ) → drop 3 (drop 1 (take 24 l)) ≡ take 20 (drop 4 l)
+    past-four [] = refl
+    past-four (a ∷ []) = refl
+    past-four (a ∷ (b ∷ [])) = refl
+    past-four (a ∷ (b ∷ (c ∷ []))) = refl
+    past-four (a ∷ (b ∷ (c ∷ (d ∷ l)))) = refl
+
+-- A cell, lent, with another word in the place of its stamp.
+pub stamp-replaced : (w : List ℤ) (at : ℕ) (x : ℤ) → at + 24 ≤ length w → set (take (at + 24 - at) (drop at w)) 0 x ≡ x ∷ offer-at w at
+unfolding offer-at part
+stamp-replaced w at x h =
+    let n : at + 24 - at ≡ 24 = omega arith in
+    ap (λ (k : ℕ). set (take k (drop at w)) 0 x) n ∙ set-split (part at 24 w) 0 x (omega (arith, length-part at 24 w h))

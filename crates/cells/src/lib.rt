@@ -1,0 +1,267 @@
+// The book's words (document 01, "The book's words" and "Offer in force"): places, stores, the offer in force,
+// and what a look-up and a total answer. Each read goes straight to its words; the book is never copied.
+ghost use mathlib.Core.Path.{_≡_};
+ghost use mathlib.Core.List.{[], _∷_};
+ghost use mathlib.Core.Option.{none};
+ghost use Prim.Native.Nat.{_+_, _≤_, _<_};
+ghost use lib.IntN.{pos, natAbs, _+ℤ_};
+ghost use lib.ListN.{length};
+ghost use Rattle.offer_rules.specs.Numbers.{eqZ, word};
+ghost use Rattle.book_rules.specs.Words.{put, book-size, cell-place, cell};
+ghost use Rattle.book_rules.specs.Force.{first-of, in-force, counted, quantity-of, plain, found};
+ghost use Rattle.book_rules.specs.Refusals.{total-reply};
+ghost use Rattle.book_rules.specs.Book.{book-view};
+ghost use Rattle.cells.specs.Meaning.{Sized, meaning, end-of, answer-of, found-at, total-quantity};
+use offers::sum_of;
+use units::copy_words;
+
+// "Head", then "32 words a facility", then "cells of 24 words".
+const HEAD: usize = 64;
+
+const FACILITY: usize = 32;
+
+const CELL: usize = 24;
+
+// In a cell: the stamp, then the offer, whose pairs are words 4 to 23.
+const PAIRS: usize = 4;
+
+const PAIR_WORDS: usize = 20;
+
+const SLOTS: usize = 336;
+
+const STANDING_HALF: usize = 0;
+
+const VARIATION_HALF: usize = 1;
+
+const STANDING_STAMP: u32 = 1;
+
+// ---- places
+
+// "numbered ((f·S + s)·2 + h)·336 + slot, h 0 standing, 1 variation"
+pub fn cell_place(
+    facilities: usize,
+    services: usize,
+    f: usize,
+    s: usize,
+    half: usize,
+    slot: usize,
+) -> usize
+    requires { ⌜ (facilities ≤ 64) × (services ≤ 5) × (f < facilities) × (s < services) × (half < 2) × (slot < 336) ⌝ }
+    ensures { λ r. ⌜ (r ≡ cell-place facilities services f s half slot) × (r + 24 ≤ book-size facilities services) ⌝ }
+{
+    HEAD + FACILITY * facilities + CELL * (((f * services + s) * 2 + half) * SLOTS + slot)
+}
+
+// ---- stores
+
+// "0 stamp (0 empty, 1 standing, P + 1 variation), 1 proportion, 2 ramp up, 3 ramp down, 4–23 pairs"
+pub fn write_cell(words: &mut [i32], stamp: u32, offer: &[i32])
+    requires { ⌜ (length (now words) ≡ 24) × (stamp < 2147483648) × (length (now offer) ≡ 23) ⌝ }
+    ensures { λ _. ⌜ now (words .exit) ≡ cell stamp (now (offer .entry)) ⌝ }
+{
+    words[0] = stamp as i32;
+    copy_words(&mut words[1..CELL], offer);
+}
+
+// "An accepted offer writes one cell's 24 words and no other word."
+pub fn store_offer(book: &mut [i32], at: usize, stamp: u32, offer: &[i32])
+    requires { ⌜ (at + 24 ≤ length (now book)) × (stamp < 2147483648) × (length (now offer) ≡ 23) ⌝ }
+    ensures { λ _. ⌜ now (book .exit) ≡ put (now (book .entry)) at (cell stamp (now (offer .entry))) ⌝ }
+{
+    let end = at + CELL;
+    write_cell(&mut book[at..end], stamp, offer);
+}
+
+// "Other accepted calls write only the fields they carry."
+pub fn store_words(book: &mut [i32], at: usize, words: &[i32])
+    requires { ⌜ at + length (now words) ≤ length (now book) ⌝ }
+    ensures { λ _. ⌜ now (book .exit) ≡ put (now (book .entry)) at (now (words .entry)) ⌝ }
+{
+    let end = at + words.len();
+    copy_words(&mut book[at..end], words);
+}
+
+pub fn store_window(book: &mut [i32], at: usize, first: i32, last: i32)
+    requires { ⌜ at + 2 ≤ length (now book) ⌝ }
+    ensures { λ _. ⌜ now (book .exit) ≡ put (now (book .entry)) at (first ∷ (last ∷ [])) ⌝ }
+{
+    book[at] = first;
+    book[at + 1] = last;
+}
+
+pub fn store_word(book: &mut [i32], at: usize, value: i32)
+    requires { ⌜ at < length (now book) ⌝ }
+    ensures { λ _. ⌜ now (book .exit) ≡ put (now (book .entry)) at (value ∷ []) ⌝ }
+{
+    book[at] = value;
+}
+
+// ---- the offer in force
+
+// An offer by its cell's place; specs/Meaning says what each case means.
+pub enum InForce {
+    Nothing,
+    Standing(usize),
+    Variation(usize),
+}
+
+pub fn is_stamped(book: &[i32], at: usize, stamp: u32) -> bool
+    requires { ⌜ (at < length (now book)) × (stamp < 2147483648) ⌝ }
+    ensures { λ r. ⌜ r ≡ eqZ (word (now (book .entry)) at) (pos stamp) ⌝ }
+{
+    book[at] == stamp as i32
+}
+
+// "else the standing cell if its stamp is 1, else none"
+pub fn held_standing(
+    book: &[i32],
+    facilities: usize,
+    services: usize,
+    f: usize,
+    s: usize,
+    slot: usize,
+) -> InForce
+    requires { ⌜ Sized (now book) facilities services × (f < facilities) × (s < services) × (slot < 336) ⌝ }
+    ensures { λ r. ⌜ (meaning (now (book .entry)) r ≡ first-of none (book-view (now (book .entry)) .standing f s slot)) × (end-of r ≤ length (now (book .entry))) ⌝ }
+{
+    let at = cell_place(facilities, services, f, s, STANDING_HALF, slot);
+    if is_stamped(book, at, STANDING_STAMP) {
+        return InForce::Standing(at);
+    }
+    InForce::Nothing
+}
+
+// "the variation cell if its stamp is P + 1", else the standing one
+pub fn in_force(
+    book: &[i32],
+    facilities: usize,
+    services: usize,
+    f: usize,
+    s: usize,
+    period: usize,
+) -> InForce
+    requires { ⌜ Sized (now book) facilities services × (f < facilities) × (s < services) × (period < 2147483647) ⌝ }
+    ensures { λ r. ⌜ (meaning (now (book .entry)) r ≡ in-force (book-view (now (book .entry))) f s period) × (end-of r ≤ length (now (book .entry))) ⌝ }
+{
+    let slot = period % SLOTS;
+    let at = cell_place(facilities, services, f, s, VARIATION_HALF, slot);
+    let stamp = (period + 1) as u32;
+    if is_stamped(book, at, stamp) {
+        return InForce::Variation(at);
+    }
+    held_standing(book, facilities, services, f, s, slot)
+}
+
+// ---- answers
+
+// "Each call returns a number, 24 words and a sum (signed 64-bit)."
+#[repr(C)]
+pub struct Answer {
+    pub number: u32,
+    pub words: [i32; 24],
+    pub sum: i64,
+}
+
+// "Otherwise words and sum are zero."
+pub fn plain(number: u8) -> Answer
+    ensures { λ r. ⌜ answer-of r ≡ plain number ⌝ }
+{
+    Answer {
+        number: number as u32,
+        words: [0; 24],
+        sum: 0,
+    }
+}
+
+// "its ten quantities added", of the cell at a place
+fn total_quantity(book: &[i32], at: usize) -> i64
+    requires { ⌜ at + 24 ≤ length (now book) ⌝ }
+    ensures { λ r. ⌜ (r ≡ total-quantity (now (book .entry)) at) × (natAbs r ≤ 21474836480) ⌝ }
+{
+    let from = at + PAIRS;
+    let end = from + PAIR_WORDS;
+    sum_of(&book[from..end])
+}
+
+// "word 0 is 1 (standing) or 2 (variation), then cell words 1–23"
+fn found_at(book: &[i32], at: usize, kind: i32) -> Answer
+    requires { ⌜ at + 24 ≤ length (now book) ⌝ }
+    ensures { λ r. ⌜ answer-of r ≡ found-at (now (book .entry)) at kind ⌝ }
+{
+    let end = at + CELL;
+    let mut words = [0i32; 24];
+    copy_words(&mut words, &book[at..end]);
+    words[0] = kind;
+    let sum = total_quantity(book, at);
+    Answer {
+        number: 0,
+        words,
+        sum,
+    }
+}
+
+pub fn look_up(book: &[i32], offer: InForce) -> Answer
+    requires { ⌜ end-of offer ≤ length (now book) ⌝ }
+    ensures { λ r. ⌜ answer-of r ≡ found (meaning (now (book .entry)) offer) ⌝ }
+{
+    match offer {
+        InForce::Nothing => plain(0),
+        InForce::Standing(at) => found_at(book, at, 1),
+        InForce::Variation(at) => found_at(book, at, 2),
+    }
+}
+
+// Offers in force: how many, and their quantities added.
+struct Tally {
+    count: u32,
+    sum: i64,
+}
+
+// One facility's.
+fn tally_of(book: &[i32], offer: InForce) -> Tally
+    requires { ⌜ end-of offer ≤ length (now book) ⌝ }
+    ensures { λ r. ⌜ (r .count ≡ counted (meaning (now (book .entry)) offer)) × (r .sum ≡ quantity-of (meaning (now (book .entry)) offer)) × (r .count ≤ 1) × (natAbs (r .sum) ≤ 21474836480) ⌝ }
+{
+    match offer {
+        InForce::Nothing => Tally { count: 0, sum: 0 },
+        InForce::Standing(at) => Tally {
+            count: 1,
+            sum: total_quantity(book, at),
+        },
+        InForce::Variation(at) => Tally {
+            count: 1,
+            sum: total_quantity(book, at),
+        },
+    }
+}
+
+fn added(t: Tally, u: Tally) -> Tally
+    requires { ⌜ (t .count < 64) × (u .count ≤ 1) × (natAbs (t .sum) ≤ 1374389534720) × (natAbs (u .sum) ≤ 21474836480) ⌝ }
+    ensures { λ r. ⌜ (r .count ≡ t .count + u .count) × (r .sum ≡ t .sum +ℤ u .sum) ⌝ }
+{
+    Tally {
+        count: t.count + u.count,
+        sum: t.sum + u.sum,
+    }
+}
+
+// "word 0 counts facilities with an offer in force, other words zero; sum over them"
+pub fn total(book: &[i32], facilities: usize, services: usize, s: usize, period: usize) -> Answer
+    requires { ⌜ Sized (now book) facilities services × (s < services) × (period < 2147483647) ⌝ }
+    ensures { λ r. ⌜ answer-of r ≡ total-reply (book-view (now (book .entry))) s period ⌝ }
+{
+    let mut t = Tally { count: 0, sum: 0 };
+    for f in 0..facilities {
+        t = added(
+            t,
+            tally_of(book, in_force(book, facilities, services, f, s, period)),
+        );
+    }
+    let mut words = [0i32; 24];
+    words[0] = t.count as i32;
+    Answer {
+        number: 0,
+        words,
+        sum: t.sum,
+    }
+}

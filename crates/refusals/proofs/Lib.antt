@@ -1,0 +1,3 @@
+-- Laws of the loops over words, and of an outage that draws no number.
+pub mod WordByWord
+pub mod OutagePassed
