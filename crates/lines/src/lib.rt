@@ -5,7 +5,7 @@ ghost use Prim.Native.Nat.{_≤_};
 ghost use lib.ListN.{length};
 use cells::Answer;
 
-pub fn put_byte(out: &mut [u8], at: usize, byte: u8) -> usize
+fn put_byte(out: &mut [u8], at: usize, byte: u8) -> usize
     requires { ⌜ at ≤ length (now out) ⌝ }
     ensures { λ r. ⌜ (r ≤ length (now (out .entry))) × (length (now (out .exit)) ≡ length (now (out .entry))) ⌝ }
 {
@@ -65,7 +65,7 @@ fn wide(x: u32) -> u64 {
 }
 
 // "prints number, word 0, sum, parted by one space"
-pub fn put_line(out: &mut [u8], answer: Answer) -> usize
+fn put_line(out: &mut [u8], answer: Answer) -> usize
     ensures { λ r. ⌜ (r ≤ length (now (out .entry))) × (length (now (out .exit)) ≡ length (now (out .entry))) ⌝ }
 {
     let words = answer.words;
@@ -78,7 +78,7 @@ pub fn put_line(out: &mut [u8], answer: Answer) -> usize
 }
 
 // Number, all 24 words, sum.
-pub fn put_whole(out: &mut [u8], answer: Answer) -> usize
+fn put_whole(out: &mut [u8], answer: Answer) -> usize
     ensures { λ r. ⌜ (r ≤ length (now (out .entry))) × (length (now (out .exit)) ≡ length (now (out .entry))) ⌝ }
 {
     let words = answer.words;
@@ -90,4 +90,17 @@ pub fn put_whole(out: &mut [u8], answer: Answer) -> usize
     end = put_byte(out, end, b' ');
     end = put_signed(out, end, answer.sum);
     put_byte(out, end, b'\n')
+}
+
+// Writes an answer's line to a file descriptor; false where a write fails.
+pub fn print_line(fd: i32, answer: Answer) -> bool {
+    let mut text = [0u8; 64];
+    let end = put_line(&mut text, answer);
+    io::write_all(fd, &text[..end])
+}
+
+pub fn print_whole(fd: i32, answer: Answer) -> bool {
+    let mut text = [0u8; 512];
+    let end = put_whole(&mut text, answer);
+    io::write_all(fd, &text[..end])
 }

@@ -1,0 +1,403 @@
+/* Times each kind of call on the library and on the plain book, F 64 and S 5, in one run; a benchmark, not a test.
+ * Prints tab-separated lines: kind, where, who, calls, nanoseconds a call. Argument: rounds (default 15), or
+ * 'instructions' for one short round, of which callgrind counts measured_calls. */
+#define _DEFAULT_SOURCE
+#include "plain_book.h"
+#include "../tests/c/records.h"
+
+#include <inttypes.h>
+#include <stdbool.h>
+#include <stdio.h>
+#include <stdlib.h>
+#include <string.h>
+#include <time.h>
+
+enum {
+    F = 64, S = 5, NOW = 100000, /* minute 100,000: period 3333 is on */
+    FIRST_PERIOD = NOW / 30 + 1, OPEN_PERIOD = FIRST_PERIOD + 3, HORIZON = 48 * (NOW / 1440 + 7),
+    READ_PERIOD = OPEN_PERIOD + 240, TOTAL_KEYS = 64, MOST_KEYS = 2048,
+    SUBJECTS = 3 /* the library, the plain book, and the loop alone */
+};
+
+_Static_assert(READ_PERIOD + TOTAL_KEYS <= HORIZON, "every period that is read is inside the horizon");
+
+static const int32_t limits[6] = {-450000, 450000, 450000, 450000, 450000, 450000};
+
+/* ---- who is measured ---- */
+
+struct subject {
+    const char *name;
+    int32_t (*record_test)(const uint8_t *, size_t, int32_t, int32_t);
+    uint32_t (*open)(int32_t *, size_t, int32_t, int32_t, const int32_t *);
+    struct bilzhaan_answer (*call)(int32_t *, size_t, const uint8_t *, size_t);
+    int32_t *words;
+    double best; /* nanoseconds a call */
+};
+
+/* What is left when a call does nothing: the loop, and reading an answer. */
+static struct bilzhaan_answer no_call(int32_t *words, size_t count, const uint8_t *bytes, size_t length)
+{
+    struct bilzhaan_answer a;
+    (void)words, (void)count, (void)length;
+    a.number = bytes[0] == 'S' ? 0 : 2;
+    a.words[0] = 0;
+    a.sum = 0;
+    return a;
+}
+
+static int32_t no_test(const uint8_t *bytes, size_t count, int32_t facilities, int32_t services)
+{
+    (void)count, (void)facilities, (void)services;
+    return bytes[0] == 'S' ? 0 : 2;
+}
+
+static uint32_t no_open(int32_t *words, size_t count, int32_t facilities, int32_t services, const int32_t *given)
+{
+    (void)words, (void)count, (void)facilities, (void)services, (void)given;
+    return 0;
+}
+
+/* ---- kinds of calls ---- */
+
+enum measured { CALL, RECORD_TEST, OPENING };
+
+struct kind {
+    const char *name;
+    enum measured what;
+    uint32_t expected;
+    struct record *hot, *scattered; /* filed in turn, over and over */
+    size_t hot_count, scattered_count, length;
+    int32_t facilities, services; /* for the opening */
+};
+
+static struct kind kinds[40];
+static int kind_count;
+static size_t keys = MOST_KEYS; /* fewer where instructions are counted */
+
+static struct record *records_of(size_t count)
+{
+    struct record *r = malloc(count * sizeof *r);
+    if (!r) {
+        perror("malloc");
+        exit(2);
+    }
+    return r;
+}
+
+static uint64_t random_state = 1;
+
+static int below(int n)
+{
+    random_state = random_state * UINT64_C(6364136223846793005) + UINT64_C(1442695040888963407);
+    return (int)((random_state >> 33) % (uint64_t)n);
+}
+
+/* No two scattered offers are for one cell. */
+static struct key {
+    int f, s;
+    int32_t period;
+} *energy_keys, *reserve_keys, *gate_keys;
+static struct key total_keys[TOTAL_KEYS], read_keys[TOTAL_KEYS * F]; /* standing offers of every facility */
+
+static struct key *distinct_keys(size_t count, int service, int services, int first, int periods)
+{
+    size_t all = (size_t)F * (size_t)services * (size_t)periods;
+    struct key *every = malloc(all * sizeof *every);
+    if (!every || count > all)
+        exit(2);
+    for (size_t i = 0; i < all; i++) {
+        every[i].f = (int)(i % F);
+        every[i].s = service + (int)(i / F % (size_t)services);
+        every[i].period = first + (int)(i / F / (size_t)services);
+    }
+    for (size_t i = 0; i < count; i++) {
+        size_t j = i + (size_t)below((int)(all - i));
+        struct key swapped = every[i];
+        every[i] = every[j];
+        every[j] = swapped;
+    }
+    return every;
+}
+
+/* An offer with all its pairs filled; `step` tells apart offers for one key. */
+static struct record full_offer(int call, struct key k, int reason, int step)
+{
+    int32_t period = call == BILZHAAN_CALL_STANDING ? k.period % BILZHAAN_WEEK_SLOTS : k.period;
+    struct record r = offer_for(call, k.f, k.s, period, reason);
+    for (int i = 0; i < (k.s == 0 ? 10 : 5); i++)
+        set_pair(&r, i, 1000 * (i + 1), 20 + step);
+    if (k.s == 0)
+        set_ramps(&r, 50, 40);
+    else if (k.s <= 3)
+        set_proportion(&r, 500);
+    return r;
+}
+
+static struct kind *add_kind(const char *name, uint32_t expected)
+{
+    struct kind *k = &kinds[kind_count++];
+    k->name = name;
+    k->expected = expected;
+    k->length = BILZHAAN_RECORD_BYTES;
+    return k;
+}
+
+typedef struct record (*made)(struct key key, int step);
+
+/* Each key once, in `steps` passes that differ; a hot run keeps to the first key. */
+static struct kind *add_calls(const char *name, uint32_t expected, const struct key *from, size_t count, int steps,
+                              made make)
+{
+    struct kind *k = add_kind(name, expected);
+    k->hot_count = (size_t)steps;
+    k->scattered_count = count * (size_t)steps;
+    k->hot = records_of(k->hot_count);
+    k->scattered = records_of(k->scattered_count);
+    for (int step = 0; step < steps; step++) {
+        k->hot[step] = make(from[0], step);
+        for (size_t i = 0; i < count; i++)
+            k->scattered[(size_t)step * count + i] = make(from[i], step);
+    }
+    return k;
+}
+
+static struct kind *add_one(const char *name, uint32_t expected, struct record r)
+{
+    struct kind *k = add_kind(name, expected);
+    k->hot_count = 1;
+    k->hot = records_of(1);
+    k->hot[0] = r;
+    return k;
+}
+
+static struct record capability_for(struct key k, int step)
+{
+    int32_t w[17] = {1, 9000, 8000 + step, 3000, 3000, 3000, 2000, 50, 40, 500, 500, 500, 1, 1, 1, 1, 1};
+    return capability_of(k.f, w);
+}
+static struct record outage_for(struct key k, int step) { return outage_of(k.f, NOW - 60 * step, 3); }
+static struct record standing_for(struct key k, int step) { return full_offer(BILZHAAN_CALL_STANDING, k, 0, step); }
+static struct record variation_for(struct key k, int step) { return full_offer(BILZHAAN_CALL_VARIATION, k, 0, step); }
+static struct record look_up_for(struct key k, int step) { (void)step; return look_up_of(k.f, k.s, k.period); }
+static struct record total_for(struct key k, int step) { (void)step; return total_of(k.s, k.period); }
+
+static struct record falling_for(struct key k, int step)
+{
+    struct record r = standing_for(k, step);
+    set_pair(&r, k.s == 0 ? 9 : 4, 1000, 20);
+    return r;
+}
+
+static struct record above_for(struct key k, int step)
+{
+    struct record r = standing_for(k, step);
+    set_pair(&r, k.s == 0 ? 9 : 4, 99000, 9000);
+    return r;
+}
+
+static struct record begun_for(struct key k, int step)
+{
+    k.period = FIRST_PERIOD - 1;
+    return variation_for(k, step);
+}
+
+static struct record inside_gate_for(struct key k, int step)
+{
+    (void)step;
+    return full_offer(BILZHAAN_CALL_VARIATION, k, BILZHAAN_REASON_SYNCHRONISATION, 0);
+}
+
+static struct record last_tenths_differ_for(struct key k, int step)
+{
+    struct record r = inside_gate_for(k, step);
+    set_pair(&r, k.s == 0 ? 9 : 4, 99000, 20);
+    return r;
+}
+
+static struct record nothing_for(struct key k, int step)
+{
+    k.s = BILZHAAN_REGULATION;
+    return look_up_for(k, step);
+}
+
+static struct record last_byte_for(struct key k, int step)
+{
+    struct record r = look_up_for(k, step);
+    r.bytes[BILZHAAN_RECORD_BYTES - 1] = 1;
+    return r;
+}
+
+static void make_kinds(void)
+{
+    size_t in_gate = keys < 256 ? keys : 256;
+    energy_keys = distinct_keys(keys, 0, 1, OPEN_PERIOD, 240);
+    reserve_keys = distinct_keys(keys, 1, 3, OPEN_PERIOD, 240);
+    gate_keys = distinct_keys(in_gate, 0, 4, FIRST_PERIOD, 2);
+    for (int i = 0; i < TOTAL_KEYS; i++) {
+        total_keys[i] = (struct key){0, below(4), READ_PERIOD + i};
+        for (int f = 0; f < F; f++)
+            read_keys[TOTAL_KEYS * f + i] = (struct key){f, total_keys[i].s, total_keys[i].period};
+    }
+    for (int i = 0; i < TOTAL_KEYS * F; i++) {
+        int j = below(TOTAL_KEYS * F);
+        struct key swapped = read_keys[i];
+        read_keys[i] = read_keys[j];
+        read_keys[j] = swapped;
+    }
+
+    add_one("1 clock", 0, clock_at(NOW));
+    add_calls("2 capability", 0, energy_keys, keys, 1, capability_for);
+    add_calls("3 standing, energy", 0, energy_keys, keys, 2, standing_for);
+    add_calls("3 standing, reserve", 0, reserve_keys, keys, 2, standing_for);
+    add_calls("3 standing, prices don't rise", 13, energy_keys, keys, 1, falling_for);
+    add_calls("3 standing, above capacity", 16, energy_keys, keys, 1, above_for);
+    add_calls("4 variation, gate open, energy", 0, energy_keys, keys, 2, variation_for);
+    add_calls("4 variation, gate open, reserve", 0, reserve_keys, keys, 2, variation_for);
+    add_calls("4 variation, inside gate closure", 0, gate_keys, in_gate, 1, inside_gate_for);
+    add_calls("4 variation, last tenths differ", 17, gate_keys, in_gate, 1, last_tenths_differ_for);
+    add_calls("4 variation, period begun", 10, energy_keys, keys, 1, begun_for);
+    add_calls("5 outage", 0, energy_keys, keys, 2, outage_for);
+    add_one("6 notice", 0, notice_of(BILZHAAN_NOTICE_SHORTFALL, FIRST_PERIOD, FIRST_PERIOD + 4));
+    add_one("7 withdrawal", 0, withdrawal_of(BILZHAAN_NOTICE_SYSTEM_STATUS));
+    add_calls("8 look-up, variation", 0, energy_keys, keys, 1, look_up_for);
+    add_calls("8 look-up, standing", 0, read_keys, keys, 1, look_up_for);
+    add_calls("8 look-up, nothing in force", 19, energy_keys, keys, 1, nothing_for);
+    add_calls("9 total, 64 facilities", 0, total_keys, TOTAL_KEYS, 1, total_for);
+    add_calls("unused byte not zero", 4, energy_keys, keys, 1, last_byte_for);
+    add_one("record of 111 bytes", 2, clock_at(NOW))->length = 111;
+    add_calls("record test, energy offer", 0, energy_keys, keys, 1, variation_for)->what = RECORD_TEST;
+    add_calls("record test, reserve offer", 0, reserve_keys, keys, 1, variation_for)->what = RECORD_TEST;
+    add_calls("record test, look-up", 0, energy_keys, keys, 1, look_up_for)->what = RECORD_TEST;
+    add_calls("record test, unused byte", 4, energy_keys, keys, 1, last_byte_for)->what = RECORD_TEST;
+}
+
+/* ---- measuring ---- */
+
+struct run {
+    const struct subject *subject;
+    const struct kind *kind;
+    const struct record *records;
+    size_t count, at, calls; /* `at` goes on from run to run, so that offers differ from the held ones */
+};
+
+/* Calls that are counted or timed. Returns a sum over the answers; a number that isn't expected spoils it. */
+__attribute__((noinline)) uint64_t measured_calls(struct run *run)
+{
+    const struct subject *who = run->subject;
+    const struct kind *kind = run->kind;
+    uint64_t seen = 0;
+    size_t at = run->at, words = BILZHAAN_BOOK_WORDS(F, S);
+    for (size_t i = 0; i < run->calls; i++) {
+        const uint8_t *bytes = run->records[at].bytes;
+        if (kind->what == CALL) {
+            struct bilzhaan_answer a = who->call(who->words, words, bytes, kind->length);
+            seen += (uint64_t)a.sum + (uint64_t)a.words[0] + ((uint64_t)(a.number != kind->expected) << 40);
+        } else if (kind->what == RECORD_TEST) {
+            int32_t number = who->record_test(bytes, kind->length, F, S);
+            seen += (uint64_t)((uint32_t)number != kind->expected) << 40;
+        } else {
+            seen += (uint64_t)who->open(who->words, words, kind->facilities, kind->services, limits) << 40;
+        }
+        if (++at == run->count)
+            at = 0;
+    }
+    run->at = at;
+    return seen;
+}
+
+static double nanoseconds(void)
+{
+    struct timespec t;
+    clock_gettime(CLOCK_MONOTONIC, &t);
+    return (double)t.tv_sec * 1e9 + (double)t.tv_nsec;
+}
+
+static void file(const struct subject *who, struct record r)
+{
+    uint32_t number = who->call(who->words, BILZHAAN_BOOK_WORDS(F, S), r.bytes, sizeof r.bytes).number;
+    if (number != 0) {
+        fprintf(stderr, "%s refused a call of the setting with %" PRIu32 "\n", who->name, number);
+        exit(1);
+    }
+}
+
+/* The book that every kind starts from: capabilities, the clock, and the offers that are varied, repeated or read. */
+static void set_up(const struct subject *who)
+{
+    struct key k = {0, 0, 0};
+    if (who->open(who->words, BILZHAAN_BOOK_WORDS(F, S), F, S, limits) != 0)
+        exit(1);
+    file(who, clock_at(NOW));
+    for (k.f = 0; k.f < F; k.f++)
+        file(who, capability_for(k, 0));
+    for (size_t i = 0; i < keys; i++) {
+        file(who, standing_for(energy_keys[i], 1));
+        file(who, standing_for(reserve_keys[i], 1));
+        file(who, variation_for(energy_keys[i], 1));
+        file(who, variation_for(reserve_keys[i], 1));
+    }
+    for (size_t i = 0; i < (keys < 256 ? keys : 256); i++)
+        file(who, inside_gate_for(gate_keys[i], 0));
+    for (int i = 0; i < TOTAL_KEYS * F; i++)
+        file(who, standing_for(read_keys[i], 0));
+}
+
+/* One kind on every subject in turn, `rounds` times and every other round backwards; the least time counts. */
+static void measure(const struct kind *kind, const char *where, const struct record *records, size_t count, size_t calls,
+                    int rounds, struct subject subjects[SUBJECTS])
+{
+    size_t at[SUBJECTS] = {0};
+    for (int round = 0; round < rounds; round++) {
+        uint64_t seen[SUBJECTS];
+        for (int turn = 0; turn < SUBJECTS; turn++) {
+            int i = round % 2 == 0 ? turn : SUBJECTS - 1 - turn;
+            struct run run = {&subjects[i], kind, records, count, at[i], calls};
+            double start = nanoseconds();
+            seen[i] = measured_calls(&run);
+            double each = (nanoseconds() - start) / (double)calls;
+            at[i] = run.at;
+            if (round == 0 || each < subjects[i].best)
+                subjects[i].best = each;
+        }
+        if (seen[0] >> 40 != 0 || seen[0] != seen[1]) {
+            fprintf(stderr, "%s: the answers are not the expected ones\n", kind->name);
+            exit(1);
+        }
+    }
+    for (int i = 0; i < SUBJECTS; i++)
+        printf("%s\t%s\t%s\t%zu\t%.2f\n", kind->name, where, subjects[i].name, calls, subjects[i].best);
+}
+
+int main(int argc, char **argv)
+{
+    bool instructions = argc > 1 && strcmp(argv[1], "instructions") == 0;
+    int rounds = instructions ? 1 : argc > 1 ? atoi(argv[1]) : 15;
+    size_t words = BILZHAAN_BOOK_WORDS(F, S);
+    struct subject subjects[SUBJECTS] = {
+        {"library", bilzhaan_record_test, bilzhaan_open, bilzhaan_call, calloc(words, 4), 0},
+        {"plain", plain_record_test, plain_open, plain_call, calloc(words, 4), 0},
+        {"loop", no_test, no_open, no_call, NULL, 0},
+    };
+    if (!subjects[0].words || !subjects[1].words || rounds < 1)
+        return 2;
+    if (instructions)
+        keys = 64;
+    make_kinds();
+    set_up(&subjects[0]);
+    set_up(&subjects[1]);
+    for (int i = 0; i < kind_count; i++) {
+        const struct kind *k = &kinds[i];
+        size_t hot = instructions ? 64 : 4096, scattered = instructions ? k->scattered_count : 4096;
+        measure(k, "hot", k->hot, k->hot_count, hot, rounds, subjects);
+        if (k->scattered)
+            measure(k, "scattered", k->scattered, k->scattered_count, scattered, rounds, subjects);
+    }
+    static const int32_t sizes[2][2] = {{1, 1}, {F, S}};
+    static const char *const names[2] = {"opening, 16,224 words", "opening, 5,163,072 words"};
+    for (int i = 0; i < 2; i++) {
+        struct record unused = clock_at(0);
+        struct kind k = {names[i], OPENING, 0, &unused, NULL, 1, 0, 0, sizes[i][0], sizes[i][1]};
+        measure(&k, "hot", &unused, 1, instructions ? 1 : i == 0 ? 256 : 4, rounds, subjects);
+    }
+    return 0;
+}

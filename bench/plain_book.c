@@ -1,0 +1,486 @@
+/* The offer book of document 01 over lent words, as one would write it in C for speed: direct indexing and early
+ * returns. It shares no code with the list machine of the tests. */
+#include "plain_book.h"
+
+#include <stdbool.h>
+#include <string.h>
+
+enum {
+    HEAD_MARK = 0, HEAD_VERSION = 1, HEAD_F = 2, HEAD_S = 3, HEAD_CLOCK = 4, HEAD_NOTICES = 5, HEAD_LIMITS = 11,
+    HEAD_WORDS = 64,
+    BLOCK_OUTAGE = 17, BLOCK_WORDS = 32,
+    CELL_WORDS = 24, CELL_PAIRS = 4,
+    MARK = 0x534F42,
+    SLOTS = 336
+};
+
+/* A record's offer as a cell holds it, with what the tests find on the way. */
+struct offer {
+    int32_t words[CELL_WORDS];
+    int32_t total;
+};
+
+struct book {
+    int32_t *words;
+    int32_t facilities, services, now;
+};
+
+static inline int32_t load(const uint8_t *p)
+{
+    return (int32_t)((uint32_t)p[0] << 24 | (uint32_t)p[1] << 16 | (uint32_t)p[2] << 8 | (uint32_t)p[3]);
+}
+
+static inline bool outside(int32_t n, int32_t low, int32_t high)
+{
+    return n < low || n > high;
+}
+
+static inline bool sizes_ok(int32_t facilities, int32_t services)
+{
+    return facilities >= 1 && facilities <= 64 && (services == 1 || services == 5);
+}
+
+static inline size_t words_needed(int32_t facilities, int32_t services)
+{
+    return HEAD_WORDS + (size_t)facilities * (BLOCK_WORDS + (size_t)services * 2 * SLOTS * CELL_WORDS);
+}
+
+static inline int32_t *block_of(const struct book *b, int f)
+{
+    return b->words + HEAD_WORDS + BLOCK_WORDS * f;
+}
+
+static inline int32_t *cell_of(const struct book *b, int f, int s, int variation, int slot)
+{
+    size_t cell = (size_t)((f * b->services + s) * 2 + variation) * SLOTS + (size_t)slot;
+    return b->words + HEAD_WORDS + BLOCK_WORDS * b->facilities + cell * CELL_WORDS;
+}
+
+/* The cell in force for a period from 0, or null. */
+static inline const int32_t *in_force(const struct book *b, int f, int s, int32_t period)
+{
+    int slot = period % SLOTS;
+    const int32_t *variation = cell_of(b, f, s, 1, slot);
+    if (variation[0] == period + 1)
+        return variation;
+    const int32_t *standing = cell_of(b, f, s, 0, slot);
+    return standing[0] == 1 ? standing : NULL;
+}
+
+/* ---- the record: 2, 3, 4 ---- */
+
+static inline bool all_zero(const uint8_t *r, size_t first, size_t end)
+{
+    uint64_t any = 0;
+    size_t i = first;
+    for (; i + 8 <= end; i += 8) {
+        uint64_t eight;
+        memcpy(&eight, r + i, 8);
+        any |= eight;
+    }
+    for (; i < end; i++)
+        any |= r[i];
+    return any == 0;
+}
+
+static int offer_record(const uint8_t *r)
+{
+    int s = r[7];
+    if (r[13] != 0 || !all_zero(r, 24, 32))
+        return 4;
+    if (s == 0)
+        return r[14] == 0 && r[15] == 0 ? 0 : 4;
+    if (s == 4 && (r[14] != 0 || r[15] != 0))
+        return 4;
+    return all_zero(r, 16, 24) && all_zero(r, 72, 112) ? 0 : 4;
+}
+
+static int record_number(const uint8_t *r, size_t length, int32_t facilities, int32_t services)
+{
+    if (length != 112 || r[0] != 'S' || r[1] != 'O' || r[2] != 'B' || r[3] != 0 || r[4] != 1)
+        return 2;
+    bool no_facility = r[6] >= facilities;
+    bool no_service = r[7] >= services;
+    switch (r[5]) {
+    case 1:
+        return all_zero(r, 6, 24) && all_zero(r, 28, 112) ? 0 : 4;
+    case 2:
+        if (no_facility)
+            return 3;
+        return all_zero(r, 7, 32) && all_zero(r, 100, 112) ? 0 : 4;
+    case 3:
+        if (no_facility || no_service)
+            return 3;
+        return r[12] == 0 ? offer_record(r) : 4;
+    case 4:
+        if (no_facility || no_service)
+            return 3;
+        return offer_record(r);
+    case 5:
+        if (no_facility)
+            return 3;
+        return all_zero(r, 7, 24) && all_zero(r, 32, 112) ? 0 : 4;
+    case 6:
+        return all_zero(r, 6, 12) && all_zero(r, 13, 24) && all_zero(r, 32, 112) ? 0 : 4;
+    case 7:
+        return all_zero(r, 6, 12) && all_zero(r, 13, 112) ? 0 : 4;
+    case 8:
+        if (no_facility || no_service)
+            return 3;
+        return all_zero(r, 12, 112) ? 0 : 4;
+    case 9:
+        if (no_service)
+            return 3;
+        return r[6] == 0 && all_zero(r, 12, 112) ? 0 : 4;
+    }
+    return 2;
+}
+
+int32_t plain_record_test(const uint8_t *bytes, size_t count, int32_t facilities, int32_t services)
+{
+    return sizes_ok(facilities, services) ? record_number(bytes, count, facilities, services) : 20;
+}
+
+/* ---- periods: 10 ---- */
+
+static inline bool period_refused(int32_t now, int32_t period)
+{
+    /* now is 0 to 1,000,000,000, so now / 30 and the horizon fit; begun is P ≤ now div 30 */
+    return period <= now / 30 || period >= 48 * (now / 1440 + 7);
+}
+
+/* The least period of the slot that starts after now. */
+static inline int32_t next_period(int32_t now, int32_t slot)
+{
+    int32_t first = now / 30 + 1;
+    int32_t ahead = slot - first % SLOTS;
+    return first + (ahead < 0 ? ahead + SLOTS : ahead);
+}
+
+/* ---- offers: 11 to 16 ---- */
+
+static int pairs_number(const struct book *b, const uint8_t *r, struct offer *o)
+{
+    int s = r[7];
+    int pairs = s == 0 ? 10 : 5;
+    int32_t low = s == 0 ? b->words[HEAD_LIMITS] : 0;
+    int32_t high = b->words[HEAD_LIMITS + 1 + s];
+    bool out = false, priced_blank = false, falls = false, first = true;
+    int32_t last = 0, total = 0;
+    for (int i = 0; i < pairs; i++) {
+        int32_t price = load(r + 32 + 8 * i);
+        int32_t quantity = load(r + 36 + 8 * i);
+        o->words[CELL_PAIRS + 2 * i] = price;
+        o->words[CELL_PAIRS + 2 * i + 1] = quantity;
+        if (outside(quantity, 0, 99999) || outside(price, low, high)) {
+            out = true;
+            break;
+        }
+        if (quantity == 0) {
+            priced_blank |= price != 0;
+            continue;
+        }
+        falls |= !first && price <= last;
+        first = false;
+        last = price;
+        total += quantity;
+    }
+    if (s != 0)
+        memset(o->words + CELL_PAIRS + 10, 0, 10 * sizeof o->words[0]);
+    o->total = total;
+    return out ? 11 : priced_blank ? 12 : falls ? 13 : 0;
+}
+
+static int offer_number(const struct book *b, const uint8_t *r, const int32_t *block, struct offer *o)
+{
+    if (r[12] > 6)
+        return 11;
+    o->words[1] = r[14] << 8 | r[15];
+    o->words[2] = load(r + 16);
+    o->words[3] = load(r + 20);
+    int number = pairs_number(b, r, o);
+    if (number != 0)
+        return number;
+    int s = r[7];
+    if (s == 0) {
+        if (outside(o->words[2], 0, block[7]) || outside(o->words[3], 0, block[8]))
+            return 14;
+        return o->total > block[1] || o->total > block[2] ? 16 : 0;
+    }
+    if (s <= 3 && block[0] == 1 && (o->words[1] == 0 || o->words[1] > block[8 + s]))
+        return 15;
+    return o->total > block[2 + s] ? 16 : 0;
+}
+
+/* ---- gate closure: 17 ---- */
+
+static inline int64_t counted(int32_t quantity)
+{
+    return quantity > 0 ? quantity : 0;
+}
+
+static int64_t gate_total(const int32_t *cell)
+{
+    int64_t total = 0;
+    for (int i = 0; i < 10; i++)
+        total += counted(cell[CELL_PAIRS + 2 * i + 1]);
+    return total;
+}
+
+/* Walks both offers at once, as far as the shorter goes, a stretch of equal price at a time. */
+static bool same_prices(const int32_t *old, const int32_t *new)
+{
+    int i = 0, j = 0;
+    int64_t left_old = 0, left_new = 0;
+    for (;;) {
+        while (left_old == 0) {
+            if (i == 10)
+                return true;
+            left_old = counted(old[CELL_PAIRS + 2 * i++ + 1]);
+        }
+        while (left_new == 0) {
+            if (j == 10)
+                return true;
+            left_new = counted(new[CELL_PAIRS + 2 * j++ + 1]);
+        }
+        if (old[CELL_PAIRS + 2 * (i - 1)] != new[CELL_PAIRS + 2 * (j - 1)])
+            return false;
+        int64_t step = left_old < left_new ? left_old : left_new;
+        left_old -= step;
+        left_new -= step;
+    }
+}
+
+static inline bool in_window(const int32_t *window, int32_t period)
+{
+    return window[0] <= period && period <= window[1];
+}
+
+static bool gate_refuses(const struct book *b, const uint8_t *r, int32_t period, const int32_t *block,
+                         const struct offer *o)
+{
+    if (30 * period - b->now >= 65) /* the horizon bounds period, so 30 * period fits */
+        return false;
+    int s = r[7], reason = r[12];
+    const int32_t *old = in_force(b, r[6], s, period);
+    int64_t old_total = old ? gate_total(old) : 0;
+    const int32_t *notices = b->words + HEAD_NOTICES;
+    bool holds = false;
+    switch (reason) {
+    case 1: holds = block[0] == 1; break;
+    case 2: holds = block[0] == 1 && in_window(block + BLOCK_OUTAGE, period); break;
+    case 3: holds = s == 0 && in_window(notices, period) && o->total < old_total; break;
+    case 4: holds = in_window(notices + 2, period) && o->total > old_total; break;
+    case 5: holds = in_window(notices + 4, period) && o->total > old_total; break;
+    case 6: holds = block[0] == 2 && in_window(block + BLOCK_OUTAGE, period); break;
+    }
+    return !holds || (old && !same_prices(old, o->words));
+}
+
+/* ---- the calls, each after 2, 3 and 4 ---- */
+
+static int file_clock(const struct book *b, const uint8_t *r)
+{
+    int32_t minute = load(r + 24);
+    if (outside(minute, b->now, 1000000000))
+        return 6;
+    b->words[HEAD_CLOCK] = minute;
+    return 0;
+}
+
+static int file_capability(const struct book *b, const uint8_t *r)
+{
+    int32_t *block = block_of(b, r[6]);
+    const uint8_t *w = r + 32;
+    int32_t kind = load(w);
+    if (outside(kind, 1, 2) || (!outside(block[0], 1, 2) && kind != block[0]))
+        return 8;
+    for (int i = 1; i < 17; i++)
+        if (outside(load(w + 4 * i), 0, i <= 6 ? 99999 : i <= 8 ? 9999 : i <= 11 ? 1000 : 1))
+            return 8;
+    if (kind == 2 && (load(w + 4 * 12) != 0 || load(w + 4 * 16) != 0))
+        return 8;
+    for (int i = 0; i < 17; i++)
+        block[i] = load(w + 4 * i);
+    return 0;
+}
+
+static int file_standing(const struct book *b, const uint8_t *r)
+{
+    struct offer o;
+    const int32_t *block = block_of(b, r[6]);
+    if (outside(block[0], 1, 2))
+        return 5;
+    if (block[12 + r[7]] != 1)
+        return 9;
+    int32_t slot = load(r + 8);
+    if (outside(slot, 0, SLOTS - 1))
+        return 10;
+    int number = offer_number(b, r, block, &o);
+    if (number != 0)
+        return number;
+    int32_t *cell = cell_of(b, r[6], r[7], 0, slot);
+    if (cell[0] == 1) {
+        if (30 * next_period(b->now, slot) - b->now < 65)
+            return 17;
+        if (memcmp(cell + 1, o.words + 1, 23 * sizeof cell[0]) == 0)
+            return 18;
+    }
+    o.words[0] = 1;
+    memcpy(cell, o.words, sizeof o.words);
+    return 0;
+}
+
+static int file_variation(const struct book *b, const uint8_t *r)
+{
+    struct offer o;
+    const int32_t *block = block_of(b, r[6]);
+    if (outside(block[0], 1, 2))
+        return 5;
+    if (block[12 + r[7]] != 1)
+        return 9;
+    int32_t period = load(r + 8);
+    if (period_refused(b->now, period))
+        return 10;
+    int number = offer_number(b, r, block, &o);
+    if (number != 0)
+        return number;
+    if (gate_refuses(b, r, period, block, &o))
+        return 17;
+    o.words[0] = period + 1;
+    memcpy(cell_of(b, r[6], r[7], 1, period % SLOTS), o.words, sizeof o.words);
+    return 0;
+}
+
+static int file_outage(const struct book *b, const uint8_t *r)
+{
+    int32_t *block = block_of(b, r[6]);
+    int32_t minute = load(r + 24), periods = load(r + 28);
+    if (outside(block[0], 1, 2))
+        return 5;
+    if (outside(minute, 0, b->now) || outside(periods, 1, block[0] == 2 ? 48 : 3))
+        return 7;
+    block[BLOCK_OUTAGE] = minute / 30 + 1;
+    block[BLOCK_OUTAGE + 1] = minute / 30 + periods;
+    return 0;
+}
+
+static int file_notice(const struct book *b, const uint8_t *r)
+{
+    int32_t first = load(r + 24), last = load(r + 28);
+    if (outside(r[12], 3, 5) || first < 0 || first > last || last > 40000000)
+        return 7;
+    int32_t *window = b->words + HEAD_NOTICES + 2 * (r[12] - 3);
+    window[0] = first;
+    window[1] = last;
+    return 0;
+}
+
+static int file_withdrawal(const struct book *b, const uint8_t *r)
+{
+    if (r[12] != 5)
+        return 7;
+    b->words[HEAD_NOTICES + 4] = 1;
+    b->words[HEAD_NOTICES + 5] = 0;
+    return 0;
+}
+
+static inline int64_t quantities(const int32_t *cell)
+{
+    int64_t sum = 0;
+    for (int i = 0; i < 10; i++)
+        sum += cell[CELL_PAIRS + 2 * i + 1];
+    return sum;
+}
+
+static inline struct bilzhaan_answer numbered(int number)
+{
+    struct bilzhaan_answer answer = {.number = (uint32_t)number};
+    return answer;
+}
+
+static struct bilzhaan_answer look_up(const struct book *b, const uint8_t *r)
+{
+    if (outside(block_of(b, r[6])[0], 1, 2))
+        return numbered(5);
+    int32_t period = load(r + 8);
+    if (period_refused(b->now, period))
+        return numbered(10);
+    const int32_t *cell = in_force(b, r[6], r[7], period);
+    if (!cell)
+        return numbered(19);
+    struct bilzhaan_answer answer;
+    answer.number = 0;
+    memcpy(answer.words, cell, sizeof answer.words);
+    answer.words[0] = cell[0] == period + 1 ? 2 : 1; /* a period not begun is 1 or more, so its stamp isn't 1 */
+    answer.sum = quantities(cell);
+    return answer;
+}
+
+static struct bilzhaan_answer total(const struct book *b, const uint8_t *r)
+{
+    int32_t period = load(r + 8);
+    if (period_refused(b->now, period))
+        return numbered(10);
+    int32_t count = 0;
+    int64_t sum = 0;
+    for (int f = 0; f < b->facilities; f++) {
+        const int32_t *cell = in_force(b, f, r[7], period);
+        if (cell) {
+            count++;
+            sum += quantities(cell);
+        }
+    }
+    struct bilzhaan_answer answer = {.words = {count}, .sum = sum};
+    return answer;
+}
+
+static bool book_usable(const int32_t *words, size_t count)
+{
+    return count >= HEAD_WORDS && words[HEAD_MARK] == MARK && words[HEAD_VERSION] == 1
+        && sizes_ok(words[HEAD_F], words[HEAD_S]) && count >= words_needed(words[HEAD_F], words[HEAD_S])
+        && !outside(words[HEAD_CLOCK], 0, 1000000000);
+}
+
+struct bilzhaan_answer plain_call(int32_t *words, size_t count, const uint8_t *bytes, size_t length)
+{
+    if (!book_usable(words, count))
+        return numbered(1);
+    struct book b = {words, words[HEAD_F], words[HEAD_S], words[HEAD_CLOCK]};
+    int number = record_number(bytes, length, b.facilities, b.services);
+    if (number != 0)
+        return numbered(number);
+    switch (bytes[5]) {
+    case 1: return numbered(file_clock(&b, bytes));
+    case 2: return numbered(file_capability(&b, bytes));
+    case 3: return numbered(file_standing(&b, bytes));
+    case 4: return numbered(file_variation(&b, bytes));
+    case 5: return numbered(file_outage(&b, bytes));
+    case 6: return numbered(file_notice(&b, bytes));
+    case 7: return numbered(file_withdrawal(&b, bytes));
+    case 8: return look_up(&b, bytes);
+    default: return total(&b, bytes); /* record_number leaves 1 to 9 */
+    }
+}
+
+uint32_t plain_open(int32_t *words, size_t count, int32_t facilities, int32_t services, const int32_t limits[6])
+{
+    if (!sizes_ok(facilities, services) || count < words_needed(facilities, services))
+        return 20;
+    if (outside(limits[0], -10000000, 0))
+        return 20;
+    for (int i = 1; i < 6; i++)
+        if (outside(limits[i], 0, 10000000))
+            return 20;
+    memset(words, 0, words_needed(facilities, services) * sizeof words[0]);
+    words[HEAD_MARK] = MARK;
+    words[HEAD_VERSION] = 1;
+    words[HEAD_F] = facilities;
+    words[HEAD_S] = services;
+    for (int i = 0; i < 3; i++)
+        words[HEAD_NOTICES + 2 * i] = 1;
+    memcpy(words + HEAD_LIMITS, limits, 6 * sizeof limits[0]);
+    for (int f = 0; f < facilities; f++)
+        words[HEAD_WORDS + BLOCK_WORDS * f + BLOCK_OUTAGE] = 1;
+    return 0;
+}

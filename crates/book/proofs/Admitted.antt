@@ -1,0 +1,86 @@
+-- What refusals 1 to 4 leave to a call: a usable book, 112 bytes, a call from 1 to 9, and that what it names lies in the book.
+use mathlib.Core.Path.{_≡_, refl}
+use mathlib.Core.Bool.{true, not, _&&_}
+use mathlib.Core.List.{List}
+use Prim.Native.Nat.{ℕ, _<_}
+use native.Mathlib.Omega.{arith}
+use lib.Dec.{eqb}
+use lib.IntN.{ℤ}
+use lib.ListN.{length}
+use borrow.Author.Tests.{eqb-true, not-false}
+use Rattle.offer_rules.proofs.Drawn.{and-left, then-zero, draw-zero}
+use Rattle.book_rules.specs.Record.{byte, call-of, service-of, between, is-record, record-number}
+use Rattle.book_rules.specs.Words.{book-size, is-book}
+use Rattle.book_rules.specs.Book.{facilities-in, services-in}
+use Rattle.book_rules.proofs.Calls.{Which, named, capability-uses, standing-uses, variation-uses, outage-uses, look-up-uses, total-uses}
+use Rattle.opening.specs.Usable as opening
+use Rattle.opening.proofs.UsableBooks as books
+use Rattle.judging.specs.Usable.{Usable}
+use Rattle.book.specs.Tested.{Tested, Facility, Place}
+
+-- Refusal 1.
+pub usable : (w : List ℤ) → is-book w ≡ true → Usable w
+unfolding book-size
+usable w e =
+    let u : opening.Usable w = books.usable w e in
+    record {
+      is-usable = e;
+      sized = record {
+        facilities-held = refl;
+        services-held = refl;
+        facilities-limit = u .most-F;
+        services-limit = u .most-S;
+        room = u .book-fits;
+      };
+      blocks = omega (arith, u .book-fits);
+      timely = u .most-clock;
+    }
+
+-- Refusal 2, and so 3 and 4, turns down all but 112 bytes.
+length-is : (b : List ℕ) (F S : ℕ) → record-number b F S ≡ 0 → length b ≡ 112
+unfolding record-number is-record
+length-is b F S e =
+    let head = (eqb (byte b 0) 83 && eqb (byte b 1) 79) && eqb (byte b 2) 66 in
+    let rest = (eqb (byte b 3) 0 && eqb (byte b 4) 1) && between 1 9 (call-of b) in
+    let r = not-false (is-record b) (draw-zero (not (is-record b)) 2 (omega arith) (then-zero _ _ e .0)) in
+    eqb-true (length b) 112 (and-left (eqb (length b) 112) head (and-left (eqb (length b) 112 && head) rest r))
+
+pub tested : (w : List ℤ) (b : List ℕ) → is-book w ≡ true → record-number b (facilities-in w) (services-in w) ≡ 0 → Tested w b
+tested w b e z = record { usable = usable w e; is-taken = z; long = length-is b (facilities-in w) (services-in w) z }
+
+-- ---- what the call names
+
+module _ (w : List ℤ) (b : List ℕ) (t : Tested w b) where
+  pub one-of-nine : Which b
+  one-of-nine = named (facilities-in w) (services-in w) b (t .is-taken) .which
+
+  pub capability-facility : call-of b ≡ 2 → Facility w b 2
+  capability-facility e =
+      let n = named (facilities-in w) (services-in w) b (t .is-taken) in
+      record { tested = t; call-is = e; facility-in = n .facility-in (capability-uses b e) }
+
+  pub outage-facility : call-of b ≡ 5 → Facility w b 5
+  outage-facility e =
+      let n = named (facilities-in w) (services-in w) b (t .is-taken) in
+      record { tested = t; call-is = e; facility-in = n .facility-in (outage-uses b e) }
+
+  pub standing-place : call-of b ≡ 3 → Place w b 3
+  standing-place e =
+      let n = named (facilities-in w) (services-in w) b (t .is-taken) in
+      let u = standing-uses b e in
+      record { tested = t; call-is = e; facility-in = n .facility-in (u .0); service-in = n .service-in (u .1) }
+
+  pub variation-place : call-of b ≡ 4 → Place w b 4
+  variation-place e =
+      let n = named (facilities-in w) (services-in w) b (t .is-taken) in
+      let u = variation-uses b e in
+      record { tested = t; call-is = e; facility-in = n .facility-in (u .0); service-in = n .service-in (u .1) }
+
+  pub look-up-place : call-of b ≡ 8 → Place w b 8
+  look-up-place e =
+      let n = named (facilities-in w) (services-in w) b (t .is-taken) in
+      let u = look-up-uses b e in
+      record { tested = t; call-is = e; facility-in = n .facility-in (u .0); service-in = n .service-in (u .1) }
+
+  pub total-service : call-of b ≡ 9 → service-of b < services-in w
+  total-service e = named (facilities-in w) (services-in w) b (t .is-taken) .service-in (total-uses b e)

@@ -1,0 +1,35 @@
+-- What has been tested of a book's words and a record's bytes before a call is carried out, in the words of the tests and as plain bounds.
+use mathlib.Core.Path.{_≡_}
+use mathlib.Core.Bool.{Bool, true, false}
+use mathlib.Core.List.{List}
+use Prim.Native.Nat.{ℕ, _<_}
+use lib.IntN.{ℤ}
+use lib.ListN.{length}
+use Rattle.book_rules.specs.Record.{call-of, facility-of, service-of, record-number}
+use Rattle.book_rules.specs.Book.{facilities-in, services-in}
+use Rattle.judging.specs.Usable.{Usable}
+use Rattle.cells.specs.declared.InForce as place
+use Rattle.cells.specs.declared.InForce.the-variants.{Nothing, Standing, Variation}
+
+-- Refusals 1 to 4.
+pub record Tested (w : List ℤ) (b : List ℕ) : Type 0 where
+  pub usable : Usable w
+  pub is-taken : record-number b (facilities-in w) (services-in w) ≡ 0
+  pub long : length b ≡ 112
+
+-- What a call k has been tested for: that byte 5 is k, and that what it names lies in the book.
+pub record Facility (w : List ℤ) (b : List ℕ) (k : ℕ) : Type 0 where
+  pub tested : Tested w b
+  pub call-is : call-of b ≡ k
+  pub facility-in : facility-of b < facilities-in w
+
+pub record Place (w : List ℤ) (b : List ℕ) (k : ℕ) : Type 0 where
+  pub tested : Tested w b
+  pub call-is : call-of b ≡ k
+  pub facility-in : facility-of b < facilities-in w
+  pub service-in : service-of b < services-in w
+
+unfoldable pub holds-nothing : place.InForce → Bool
+holds-nothing Nothing = true
+holds-nothing (Standing at) = false
+holds-nothing (Variation at) = false

@@ -1,0 +1,193 @@
+/* Bilzhaan for C99 and C++: a half-hour offer book kept in words that the caller lends (document 01).
+ * The four functions, their numbers and what they ask of the caller. Link with libbilzhaan.a. */
+#ifndef BILZHAAN_H
+#define BILZHAAN_H
+
+#include <stddef.h>
+#include <stdint.h>
+
+/* What every function keeps
+ * - It allocates nothing, has no globals and may run in any number of threads at once, each on a book of its own.
+ * - It always returns. It reads the words and bytes that it is lent and no others, and writes only the words.
+ * - Its work is bounded: by the pairs of an offer for filings and look-ups, by the facilities for a total, by the
+ *   112 bytes for the record test, by BILZHAAN_BOOK_WORDS for the opening. Never by megawatts, minutes or periods.
+ * - Whatever the words and bytes hold, the answer is the one that document 01 gives. A refused call returns zeros
+ *   beside its number and leaves every word as it was; a refused opening leaves every word as it was.
+ *
+ * What it asks of the caller
+ * - A pointer is not null and is valid for the count beside it, a count of 0 included: pass any valid pointer then.
+ * - `words` and `limits` are aligned as int32_t is. `bytes` needs no alignment.
+ * - The lent words overlap neither the bytes nor the limits, and no one else touches them until the call returns.
+ * - Between calls the book's words are kept as the last call left them. They may be copied or moved.
+ *
+ * The book's words are the host's native 32-bit words, so a stored book is for hosts of the same byte order.
+ * A record's words are most significant byte first on every host. */
+
+/* ---- sizes ---- */
+
+enum {
+    BILZHAAN_RECORD_BYTES = 112,
+    BILZHAAN_ANSWER_WORDS = 24,
+    BILZHAAN_LIMITS = 6,
+    BILZHAAN_FACILITIES_MOST = 64, /* F is 1 to 64 */
+    BILZHAAN_SERVICES_ONE = 1,     /* S is 1 (energy alone) or 5 */
+    BILZHAAN_SERVICES_ALL = 5,
+    BILZHAAN_PAIRS_ENERGY = 10,    /* price-quantity pairs of an energy offer, and of any other */
+    BILZHAAN_PAIRS_OTHER = 5,
+    BILZHAAN_WEEK_SLOTS = 336,     /* the slot of period P is P mod 336 */
+    BILZHAAN_PERIOD_MINUTES = 30,  /* period P starts at minute 30 * P */
+    BILZHAAN_GATE_MINUTES = 65,    /* a variation with 65 minutes or more to go needs no reason */
+    BILZHAAN_CLOCK_LAST = 1000000000,
+    BILZHAAN_NOTICE_PERIOD_LAST = 40000000,
+    BILZHAAN_LIMIT_LARGEST = 10000000 /* a price limit is within -10,000,000 to 10,000,000 */
+};
+
+/* N, the words that a book for f facilities and s services needs: 64 + 32 f + 16,128 f s. A constant expression where
+ * f and s are. For f of 1 to 64 and s of 1 or 5 it is 16,224 to 5,163,072, which a 32-bit size_t holds in bytes too. */
+#define BILZHAAN_BOOK_WORDS(f, s) ((size_t)64 + (size_t)(f) * ((size_t)32 + (size_t)16128 * (size_t)(s)))
+
+/* ---- the record: where each field starts; words are signed 32-bit, most significant byte first ---- */
+
+enum {
+    BILZHAAN_AT_MARK = 0,        /* 'S', 'O', 'B' */
+    BILZHAAN_AT_VERSION = 3,     /* two bytes, 0 and 1 */
+    BILZHAAN_AT_CALL = 5,
+    BILZHAAN_AT_FACILITY = 6,    /* 0 to F - 1 */
+    BILZHAAN_AT_SERVICE = 7,     /* 0 to S - 1 */
+    BILZHAAN_AT_PERIOD = 8,      /* a word: a slot in call 3, else a period */
+    BILZHAAN_AT_REASON = 12,
+    BILZHAAN_AT_PROPORTION = 14, /* two bytes, most significant first, thousandths */
+    BILZHAAN_AT_RAMP_UP = 16,    /* a word, tenths of a MW per minute */
+    BILZHAAN_AT_RAMP_DOWN = 20,
+    BILZHAAN_AT_A = 24,
+    BILZHAAN_AT_B = 28,
+    BILZHAAN_AT_W0 = 32          /* W0 to W19; in offers pair i is W(2i), cents per MWh, and W(2i + 1), tenths of a MW */
+};
+
+/* Byte 5, with what each call uses. Bytes that a call doesn't use are zero. */
+enum {
+    BILZHAAN_CALL_CLOCK = 1,      /* A the minute */
+    BILZHAAN_CALL_CAPABILITY = 2, /* facility; W0 to W16 */
+    BILZHAAN_CALL_STANDING = 3,   /* facility, service, slot, offer */
+    BILZHAAN_CALL_VARIATION = 4,  /* facility, service, period, reason, offer */
+    BILZHAAN_CALL_OUTAGE = 5,     /* facility; A the minute, B the count of periods after it */
+    BILZHAAN_CALL_NOTICE = 6,     /* reason 3, 4 or 5; A, B first and last period */
+    BILZHAAN_CALL_WITHDRAWAL = 7, /* reason 5 */
+    BILZHAAN_CALL_LOOK_UP = 8,    /* facility, service, period */
+    BILZHAAN_CALL_TOTAL = 9       /* service, period */
+};
+
+enum {
+    BILZHAAN_ENERGY = 0, /* its offers use both ramps and ten pairs */
+    BILZHAAN_PRIMARY_RESERVE = 1, /* 1 to 3 use the proportion and five pairs */
+    BILZHAAN_SECONDARY_RESERVE = 2,
+    BILZHAAN_CONTINGENCY_RESERVE = 3,
+    BILZHAAN_REGULATION = 4 /* five pairs */
+};
+
+enum { BILZHAAN_GENERATION = 1, BILZHAAN_LOAD = 2 };
+
+/* Byte 12 of a variation: why it is filed after gate closure. 3, 4 and 5 are also the kinds of advisory notice. */
+enum {
+    BILZHAAN_REASON_NONE = 0,
+    BILZHAAN_REASON_SYNCHRONISATION = 1,
+    BILZHAAN_REASON_FORCED_OUTAGE = 2,
+    BILZHAAN_REASON_ENERGY_SURPLUS = 3,
+    BILZHAAN_REASON_SHORTFALL = 4,
+    BILZHAAN_REASON_SYSTEM_STATUS = 5,
+    BILZHAAN_REASON_LOAD_OUTAGE = 6
+};
+
+enum {
+    BILZHAAN_NOTICE_ENERGY_SURPLUS = 3,
+    BILZHAAN_NOTICE_SHORTFALL = 4,
+    BILZHAAN_NOTICE_SYSTEM_STATUS = 5
+};
+
+/* Words of a capability record: W0 + these. */
+enum {
+    BILZHAAN_W_KIND = 0,
+    BILZHAAN_W_MAX_GENERATION = 1,
+    BILZHAAN_W_MAX_COMBINED = 2,
+    BILZHAAN_W_MAX_RESERVE = 3,    /* W3 to W5 by reserve class */
+    BILZHAAN_W_MAX_REGULATION = 6,
+    BILZHAAN_W_MAX_RAMP_UP = 7,
+    BILZHAAN_W_MAX_RAMP_DOWN = 8,
+    BILZHAAN_W_MAX_PROPORTION = 9, /* W9 to W11 by reserve class */
+    BILZHAAN_W_REGISTERED = 12,    /* W12 to W16: 1 if registered for service 0 to 4 */
+    BILZHAAN_CAPABILITY_WORDS = 17
+};
+
+/* ---- the numbers: 0 is accepted; of those that apply, the lowest is returned ---- */
+
+enum {
+    BILZHAAN_ACCEPTED = 0,
+    /* the host program */
+    BILZHAAN_BOOK_UNUSABLE = 1,        /* too few words, or mark, version, F, S or clock wrong */
+    BILZHAAN_NOT_A_RECORD = 2,         /* not 112 bytes, or mark, version or call wrong */
+    /* any sender */
+    BILZHAAN_NOT_IN_BOOK = 3,          /* facility F or above, or service S or above, where used */
+    BILZHAAN_UNUSED_BYTE = 4,          /* an unused byte not zero */
+    BILZHAAN_NO_KIND = 5,              /* the facility has no capability yet */
+    /* clock and system operator */
+    BILZHAAN_CLOCK_REFUSED = 6,        /* minute below the clock or above 1,000,000,000 */
+    BILZHAAN_NOTICE_REFUSED = 7,       /* outage, notice or withdrawal out of range */
+    BILZHAAN_CAPABILITY_REFUSED = 8,   /* kind, maxima or marks out of range, or another kind than the held one */
+    /* the coordinator who files an offer */
+    BILZHAAN_NOT_REGISTERED = 9,       /* the facility isn't registered for the service */
+    BILZHAAN_PERIOD_REFUSED = 10,      /* no such slot; period begun or past the horizon (look-up and total too) */
+    BILZHAAN_OUT_OF_RANGE = 11,        /* reason, quantity or price */
+    BILZHAAN_PRICED_BLANK = 12,        /* quantity 0 with a price */
+    BILZHAAN_PRICES_DONT_RISE = 13,
+    BILZHAAN_RAMP_REFUSED = 14,
+    BILZHAAN_PROPORTION_REFUSED = 15,
+    BILZHAAN_ABOVE_CAPACITY = 16,
+    BILZHAAN_GATE_CLOSED = 17,
+    BILZHAAN_DUPLICATE = 18,           /* the standing offer is the one that is held */
+    /* the reader */
+    BILZHAAN_NOTHING_IN_FORCE = 19,
+    /* the host program, from the opening and the record test */
+    BILZHAAN_OPENING_REFUSED = 20      /* F, S, words too few, or limits */
+};
+
+/* An answer. Beside a refusal, and for accepted calls 1 to 7, words and sum are zero.
+ * Look-up: word 0 is BILZHAAN_STANDING_IN_FORCE or BILZHAAN_VARIATION_IN_FORCE, 1 the proportion, 2 and 3 ramp up and
+ * down, 4 to 23 ten pairs (price, quantity); sum is the ten quantities added, tenths of a MW.
+ * Total: word 0 counts the facilities with an offer in force, the others are zero; sum is over them. */
+struct bilzhaan_answer {
+    uint32_t number;
+    int32_t words[24];
+    int64_t sum;
+};
+
+enum { BILZHAAN_STANDING_IN_FORCE = 1, BILZHAAN_VARIATION_IN_FORCE = 2 };
+
+#if defined(__cplusplus)
+#if __cplusplus >= 201103L
+static_assert(sizeof(struct bilzhaan_answer) == 112, "an answer is 112 bytes");
+#endif
+#elif defined(__STDC_VERSION__) && __STDC_VERSION__ >= 201112L
+_Static_assert(sizeof(struct bilzhaan_answer) == 112, "an answer is 112 bytes");
+#endif
+
+#ifdef __cplusplus
+extern "C" {
+#endif
+
+/* What a call would refuse by the record alone, for a book of these sizes: 0, 2, 3 or 4; ahead of these 20 where
+ * `facilities` isn't 1 to 64 or `services` isn't 1 or 5. For a record that waits in a queue before it is filed. */
+int32_t bilzhaan_record_test(const uint8_t *bytes, size_t count, int32_t facilities, int32_t services);
+
+/* Opens a book in the first BILZHAAN_BOOK_WORDS(facilities, services) of `count` words, whatever they held: 0, or 20.
+ * Limits in order: lowest and highest energy price, highest price of services 1, 2, 3, 4, in cents per MWh;
+ * the last four are given for energy alone too. Words past the book's are never written. */
+uint32_t bilzhaan_open(int32_t *words, size_t count, int32_t facilities, int32_t services, const int32_t limits[6]);
+
+/* One of the nine calls on an opened book, `length` bytes of a record: the number, the 24 words and the sum. */
+struct bilzhaan_answer bilzhaan_call(int32_t *words, size_t count, const uint8_t *bytes, size_t length);
+
+#ifdef __cplusplus
+}
+#endif
+
+#endif

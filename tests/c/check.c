@@ -1,0 +1,161 @@
+/* Counted checks, lent memory and books for the tests of the library. */
+#define _DEFAULT_SOURCE
+#include "check.h"
+
+#include <inttypes.h>
+#include <signal.h>
+#include <stdio.h>
+#include <stdlib.h>
+#include <string.h>
+#include <sys/mman.h>
+#include <unistd.h>
+
+long passed, failed;
+uint32_t numbers_drawn;
+
+void check_at(bool ok, const char *what, const char *file, int line)
+{
+    if (ok) {
+        passed++;
+    } else if (failed++ < 50) {
+        printf("%s:%d: not so: %s\n", file, line, what);
+    }
+}
+
+void equal_at(int64_t got, int64_t expected, const char *what, const char *file, int line)
+{
+    if (got == expected) {
+        passed++;
+    } else if (failed++ < 50) {
+        printf("%s:%d: %s is %" PRId64 ", expected %" PRId64 "\n", file, line, what, got, expected);
+    }
+}
+
+/* ---- lent memory ---- */
+
+static void stray_touch(int signal_number)
+{
+    static const char message[] = "a call touched memory that it was not lent\n0 passed, 1 failed\n";
+    (void)signal_number;
+    if (write(STDOUT_FILENO, message, sizeof message - 1) < 0)
+        _exit(3);
+    _exit(1);
+}
+
+void name_stray_touches(void)
+{
+    signal(SIGSEGV, stray_touch);
+    signal(SIGBUS, stray_touch);
+}
+
+static uint8_t *pages_between_guards(size_t bytes, size_t *room)
+{
+    size_t page = (size_t)sysconf(_SC_PAGESIZE);
+    *room = (bytes + page - 1) / page * page;
+    uint8_t *at = mmap(NULL, *room + 2 * page, PROT_READ | PROT_WRITE, MAP_PRIVATE | MAP_ANONYMOUS, -1, 0);
+    if (at == MAP_FAILED || mprotect(at, page, PROT_NONE) != 0 || mprotect(at + page + *room, page, PROT_NONE) != 0) {
+        perror("mmap");
+        exit(2);
+    }
+    return at + page;
+}
+
+uint8_t *lent_to_the_end(size_t bytes)
+{
+    size_t room;
+    uint8_t *at = pages_between_guards(bytes, &room);
+    return at + room - bytes;
+}
+
+uint8_t *lent_from_the_start(size_t bytes)
+{
+    size_t room;
+    return pages_between_guards(bytes, &room);
+}
+
+/* ---- books ---- */
+
+const int32_t usual_limits[6] = {ENERGY_LOWEST, ENERGY_HIGHEST, SERVICE_HIGHEST,
+                                 SERVICE_HIGHEST + 1, SERVICE_HIGHEST + 2, SERVICE_HIGHEST + 3};
+const int32_t usual_generation[17] = {1, 1300, 800, 300, 310, 320, 200, 50, 40, 500, 600, 700, 1, 1, 1, 1, 1};
+const int32_t usual_load[17] = {2, 0, 0, 300, 310, 320, 0, 0, 0, 0, 0, 0, 0, 1, 1, 1, 0};
+
+struct book book_for(int32_t facilities, int32_t services)
+{
+    struct book b;
+    b.facilities = facilities;
+    b.services = services;
+    b.count = BILZHAAN_BOOK_WORDS(facilities, services);
+    b.words = (int32_t *)(void *)lent_to_the_end(b.count * sizeof b.words[0]);
+    b.before = malloc(b.count * sizeof b.before[0]);
+    if (!b.before) {
+        perror("malloc");
+        exit(2);
+    }
+    EQUAL(bilzhaan_open(b.words, b.count, facilities, services, usual_limits), 0);
+    return b;
+}
+
+void open_usual(struct book *b, int32_t now)
+{
+    EQUAL(bilzhaan_open(b->words, b->count, b->facilities, b->services, usual_limits), 0);
+    EQUAL(number_of(b, capability_of(0, usual_generation)), 0);
+    EQUAL(number_of(b, capability_of(1, usual_load)), 0);
+    EQUAL(number_of(b, clock_at(now)), 0);
+}
+
+struct book usual_book(int32_t now)
+{
+    struct book b = book_for(2, 5);
+    open_usual(&b, now);
+    return b;
+}
+
+size_t cell_at(const struct book *b, int f, int s, int h, int slot)
+{
+    size_t number = (size_t)(((f * b->services + s) * 2 + h) * BILZHAAN_WEEK_SLOTS + slot);
+    return 64 + 32 * (size_t)b->facilities + 24 * number;
+}
+
+static bool all_zero(const struct bilzhaan_answer *a)
+{
+    bool zero = a->sum == 0;
+    for (int i = 0; i < BILZHAAN_ANSWER_WORDS; i++)
+        zero &= a->words[i] == 0;
+    return zero;
+}
+
+static bool same_outside(const struct book *b, size_t from, size_t end)
+{
+    return memcmp(b->words, b->before, from * sizeof b->words[0]) == 0
+        && memcmp(b->words + end, b->before + end, (b->count - end) * sizeof b->words[0]) == 0;
+}
+
+struct bilzhaan_answer call_bytes(struct book *b, const uint8_t *bytes, size_t length)
+{
+    memcpy(b->before, b->words, b->count * sizeof b->words[0]);
+    struct bilzhaan_answer a = bilzhaan_call(b->words, b->count, bytes, length);
+    numbers_drawn |= a.number < 32 ? UINT32_C(1) << a.number : 0;
+    int which = length > BILZHAAN_AT_CALL ? bytes[BILZHAAN_AT_CALL] : 0;
+    if (a.number != 0 || which <= BILZHAAN_CALL_WITHDRAWAL)
+        CHECK(all_zero(&a));
+    if (a.number != 0 || which >= BILZHAAN_CALL_LOOK_UP) {
+        CHECK(same_outside(b, b->count, b->count));
+    } else if (which == BILZHAAN_CALL_STANDING || which == BILZHAAN_CALL_VARIATION) {
+        int f = bytes[BILZHAAN_AT_FACILITY], s = bytes[BILZHAAN_AT_SERVICE];
+        int64_t period = bytes[8] * INT64_C(16777216) + bytes[9] * 65536 + bytes[10] * 256 + bytes[11];
+        size_t cell = cell_at(b, f, s, which == BILZHAAN_CALL_VARIATION, (int)(period % BILZHAAN_WEEK_SLOTS));
+        CHECK(f < b->facilities && s < b->services && same_outside(b, cell, cell + 24));
+    }
+    return a;
+}
+
+struct bilzhaan_answer call(struct book *b, struct record r)
+{
+    return call_bytes(b, r.bytes, sizeof r.bytes);
+}
+
+uint32_t number_of(struct book *b, struct record r)
+{
+    return call(b, r).number;
+}

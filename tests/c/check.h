@@ -1,0 +1,52 @@
+/* Counted checks, and memory that ends or starts at a page that can't be touched, for the tests of the library.
+ * A call that reads or writes past what it was lent stops the test with a message. */
+#ifndef BILZHAAN_TESTS_CHECK_H
+#define BILZHAAN_TESTS_CHECK_H
+
+#include "records.h"
+
+#include <stdbool.h>
+
+extern long passed, failed;
+extern uint32_t numbers_drawn; /* bit n: some call here returned n */
+
+void check_at(bool ok, const char *what, const char *file, int line);
+void equal_at(int64_t got, int64_t expected, const char *what, const char *file, int line);
+
+#define CHECK(condition) check_at((condition), #condition, __FILE__, __LINE__)
+#define EQUAL(got, expected) equal_at((int64_t)(got), (int64_t)(expected), #got, __FILE__, __LINE__)
+
+/* Touching either neighbour of the lent bytes ends the test. Kept until the test ends. */
+uint8_t *lent_to_the_end(size_t bytes);
+uint8_t *lent_from_the_start(size_t bytes);
+void name_stray_touches(void);
+
+/* A book of its own with generous limits, opened. */
+struct book {
+    int32_t *words;
+    int32_t *before; /* as many words, for comparison */
+    size_t count;
+    int32_t facilities, services;
+};
+
+enum { ENERGY_LOWEST = -450000, ENERGY_HIGHEST = 450000, SERVICE_HIGHEST = 400000 };
+extern const int32_t usual_limits[6];
+extern const int32_t usual_generation[BILZHAAN_CAPABILITY_WORDS];
+extern const int32_t usual_load[BILZHAAN_CAPABILITY_WORDS];
+
+struct book book_for(int32_t facilities, int32_t services);
+
+/* A book of two facilities and five services: 0 the usual generation, 1 the usual load, the clock at `now`. */
+struct book usual_book(int32_t now);
+void open_usual(struct book *b, int32_t now);
+
+/* Calls, and checks what holds of every call: zeros beside a refusal and beside calls 1 to 7, every word as it was after
+ * a refusal, a look-up and a total, and no word but one cell's changed by an accepted offer. */
+struct bilzhaan_answer call_bytes(struct book *b, const uint8_t *bytes, size_t length);
+struct bilzhaan_answer call(struct book *b, struct record r);
+uint32_t number_of(struct book *b, struct record r);
+
+/* Where the cell of (f, s, standing 0 or variation 1, slot) starts in a book's words. */
+size_t cell_at(const struct book *b, int f, int s, int h, int slot);
+
+#endif

@@ -1,0 +1,166 @@
+/* One call of a random list, compared at number, 24 words and sum, at the book's words and at the record test. */
+#include "compared_call.h"
+#include "../../bench/plain_book.h"
+
+#include <inttypes.h>
+#include <stdio.h>
+#include <string.h>
+
+long passed, failed;
+long drawn[20], accepted[10], inside_gate[7], past_another_period;
+
+/* ---- reports ---- */
+
+static void print_answer(const char *who, const struct bilzhaan_answer *a)
+{
+    printf("  %-12s %" PRIu32, who, a->number);
+    for (int i = 0; i < BILZHAAN_ANSWER_WORDS; i++)
+        printf(" %" PRId32, a->words[i]);
+    printf(" sum %" PRId64 "\n", a->sum);
+}
+
+bool check(struct list *l, bool ok, const char *what)
+{
+    if (ok) {
+        passed++;
+        return true;
+    }
+    l->is_wrong = true;
+    if (failed++ < FAILURES_SHOWN) {
+        printf("seed %" PRIu64 ", list %ld (F %" PRId32 ", S %" PRId32 "), call %ld, %s book: %s\n", l->seed, l->number,
+               l->facilities, l->services, l->call, l->is_damaged ? "damaged" : "sound", what);
+        printf("  record of %zu bytes ", l->length);
+        for (size_t i = 0; i < l->length; i++)
+            printf("%02x", l->bytes[i]);
+        printf("\n");
+    }
+    return false;
+}
+
+static void check_answers(struct list *l, const char *who, const struct bilzhaan_answer *a, const char *model,
+                          const struct bilzhaan_answer *expected)
+{
+    bool same = a->number == expected->number && memcmp(a->words, expected->words, sizeof a->words) == 0
+        && a->sum == expected->sum;
+    if (!check(l, same, "the answer") && failed <= FAILURES_SHOWN) {
+        print_answer(who, a);
+        print_answer(model, expected);
+    }
+}
+
+static bool is_zero(const struct bilzhaan_answer *a)
+{
+    static const int32_t zeros[BILZHAAN_ANSWER_WORDS];
+    return memcmp(a->words, zeros, sizeof zeros) == 0 && a->sum == 0;
+}
+
+/* ---- the record test ---- */
+
+static void compare_record_test(struct list *l, struct random *r)
+{
+    static const int32_t sizes[] = {1, 1, 5, 5, 64, 2, 0, -1, 65, 6, INT32_MIN, INT32_MAX};
+    int32_t f = one_in(r, 3) ? sizes[random_bits(r) % 12] : l->facilities;
+    int32_t s = one_in(r, 3) ? sizes[random_bits(r) % 12] : l->services;
+    bool good_sizes = f >= 1 && f <= 64 && (s == 1 || s == 5);
+    int32_t expected = good_sizes ? list_machine_record_number(l->bytes, l->length, f, s) : 20;
+    int32_t got = bilzhaan_record_test(l->bytes, l->length, f, s);
+    check(l, got == expected, "the record test");
+    check(l, plain_record_test(l->bytes, l->length, f, s) == expected, "the plain book's record test");
+}
+
+/* ---- words ---- */
+
+bool same_words(const struct list *l)
+{
+    return memcmp(l->library - GUARD, l->plain - GUARD, (l->needed + 2 * GUARD) * sizeof l->library[0]) == 0;
+}
+
+bool guards_stand(const struct list *l)
+{
+    for (int i = 1; i <= GUARD; i++)
+        if (l->library[-i] != CANARY || l->library[l->needed + (size_t)i - 1] != CANARY)
+            return false;
+    return true;
+}
+
+bool usable_sizes(const struct list *l)
+{
+    int32_t f = l->plain[2], s = l->plain[3];
+    return f >= 1 && f <= 64 && (s == 1 || s == 5) && BILZHAAN_BOOK_WORDS(f, s) <= l->needed;
+}
+
+/* The library's words after a call, against the plain book's, which has not been called yet and stands for before. */
+static bool only_that_cell(const struct list *l)
+{
+    int32_t f = l->plain[2], s = l->plain[3]; /* a damaged head may have smaller sizes than the opening's */
+    const uint8_t *b = l->bytes;
+    if (!usable_sizes(l))
+        return false;
+    int64_t period = (int64_t)b[8] * 16777216 + b[9] * 65536 + b[10] * 256 + b[11];
+    size_t cell = place_of_cell(f, s, b[BILZHAAN_AT_FACILITY], b[BILZHAAN_AT_SERVICE],
+                                b[BILZHAAN_AT_CALL] == BILZHAAN_CALL_VARIATION, period % 336);
+    return cell + 24 <= l->needed
+        && memcmp(l->library - GUARD, l->plain - GUARD, (cell + GUARD) * sizeof l->plain[0]) == 0
+        && memcmp(l->library + cell + 24, l->plain + cell + 24, (l->needed + GUARD - cell - 24) * sizeof l->plain[0]) == 0;
+}
+
+static void compare_words_after(struct list *l, const struct bilzhaan_answer *a)
+{
+    int which = l->length == BILZHAAN_RECORD_BYTES ? l->bytes[BILZHAAN_AT_CALL] : 0;
+    if (a->number != 0)
+        check(l, same_words(l), "a refused call changed the words");
+    else if (which >= BILZHAAN_CALL_LOOK_UP)
+        check(l, same_words(l), "a look-up or a total changed the words");
+    else if (which == BILZHAAN_CALL_STANDING || which == BILZHAAN_CALL_VARIATION)
+        check(l, only_that_cell(l), "an accepted offer changed other words than its cell's");
+}
+
+/* ---- one call ---- */
+
+static void count_call(const struct list *l, const struct bilzhaan_answer *a, int64_t now)
+{
+    drawn[a->number]++;
+    if (a->number != 0 || l->is_damaged)
+        return;
+    const uint8_t *b = l->bytes;
+    int64_t period = (int64_t)b[8] * 16777216 + b[9] * 65536 + b[10] * 256 + b[11];
+    accepted[b[BILZHAAN_AT_CALL]]++;
+    if (b[BILZHAAN_AT_CALL] == BILZHAAN_CALL_VARIATION && 30 * period - now < 65)
+        inside_gate[b[BILZHAAN_AT_REASON]]++;
+    if (b[BILZHAAN_AT_CALL] == BILZHAAN_CALL_LOOK_UP) {
+        size_t cell = place_of_cell(l->facilities, l->services, b[BILZHAAN_AT_FACILITY], b[BILZHAAN_AT_SERVICE], 1,
+                                    period % 336);
+        past_another_period += l->plain[cell] != 0 && l->plain[cell] != period + 1;
+    }
+}
+
+void compared_call(struct list *l, struct random *r, const uint8_t *bytes, size_t length)
+{
+    memcpy(l->bytes, bytes, length);
+    l->length = length;
+    l->call++;
+    size_t every = l->needed / WORDS_COMPARED_EACH_CALL + 1;
+    bool compare_words = random_bits(r) % every == 0;
+    int64_t now = l->plain[4];
+    if (compare_words && every > 1)
+        check(l, same_words(l), "words differ after an earlier call of the list");
+
+    struct bilzhaan_answer a = bilzhaan_call(l->library, l->lent, l->bytes, l->length);
+    if (compare_words)
+        compare_words_after(l, &a);
+    struct bilzhaan_answer plain = plain_call(l->plain, l->lent, l->bytes, l->length);
+    if (!l->is_damaged) {
+        struct bilzhaan_answer expected = list_machine_call(&l->machine, l->bytes, l->length);
+        check_answers(l, "library", &a, "list machine", &expected);
+        check_answers(l, "plain book", &plain, "list machine", &expected);
+    } else {
+        check_answers(l, "library", &a, "plain book", &plain);
+    }
+    if (a.number != 0)
+        check(l, is_zero(&a), "a refusal without zeros");
+    if (compare_words)
+        check(l, same_words(l), "words differ from the plain book's");
+    compare_record_test(l, r);
+    if (!l->is_wrong)
+        count_call(l, &a, now);
+}

@@ -1,0 +1,246 @@
+/* Random lists of calls: the library's answers against the list machine's, call by call at number, 24 words and sum;
+ * then damaged books against the plain book. Arguments: seconds (20), seed (1). Ends with 'N passed, M failed'. */
+#define _DEFAULT_SOURCE
+#include "compared_call.h"
+#include "../../bench/plain_book.h"
+
+#include <inttypes.h>
+#include <stdio.h>
+#include <stdlib.h>
+#include <string.h>
+#include <time.h>
+
+static long lists, damaged_lists;
+
+/* ---- lists ---- */
+
+static void some_limits(struct random *r, int32_t limits[6])
+{
+    for (int i = 0; i < 6; i++) {
+        int64_t most = one_in(r, 4) ? 10000000 : one_in(r, 6) ? between(r, 0, 12) : 450000;
+        limits[i] = (int32_t)(i == 0 ? -most : most);
+    }
+}
+
+static void open_list(struct list *l, struct random *r)
+{
+    int32_t limits[6];
+    some_limits(r, limits);
+    int32_t fill = (int32_t)(uint32_t)random_bits(r);
+    for (size_t i = 0; i < l->needed + 2 * GUARD; i++)
+        l->library[(ptrdiff_t)i - GUARD] = i < GUARD || i >= l->needed + GUARD ? CANARY : fill;
+    memcpy(l->plain - GUARD, l->library - GUARD, (l->needed + 2 * GUARD) * sizeof l->plain[0]);
+    check(l, bilzhaan_open(l->library, l->needed - 1, l->facilities, l->services, limits) == 20
+              && memcmp(l->library, l->plain, l->needed * sizeof l->plain[0]) == 0,
+          "an opening with too few words");
+    check(l, bilzhaan_open(l->library, l->lent, l->facilities, l->services, limits) == 0
+              && plain_open(l->plain, l->lent, l->facilities, l->services, limits) == 0, "the opening");
+    check(l, same_words(l), "words after the opening");
+    list_machine_open(&l->machine, l->facilities, l->services, limits);
+}
+
+/* Capabilities for the scene's facilities and a first minute; some lists go without. */
+static void prologue(struct list *l, struct random *r, struct scene *scene)
+{
+    if (one_in(r, 12))
+        return;
+    int64_t minute = one_in(r, 3) ? 0 : one_in(r, 6) ? 1000000000 - between(r, 0, 12000) : between(r, 0, 30000);
+    struct record clock = clock_at((int32_t)minute);
+    for (int i = 0; i <= SCENE_FACILITIES; i++) {
+        int32_t w[17] = {1, 1300, 800, 300, 300, 300, 200, 50, 40, 500, 600, 700, 1, 1, 1, 1, 1};
+        if (one_in(r, l->services == 1 ? 12 : 3)) {
+            w[0] = 2;
+            w[12] = w[16] = 0;
+        }
+        struct record record = i < SCENE_FACILITIES ? capability_of(scene->active[i], w) : clock;
+        compared_call(l, r, record.bytes, sizeof record.bytes);
+    }
+}
+
+static void set_both(struct list *l, size_t place, int32_t value)
+{
+    l->library[place] = l->plain[place] = value;
+}
+
+static int32_t odd_value(struct random *r)
+{
+    static const int32_t values[] = {0, 1, 2, 3, 5, 7, 64, -1, -2, 100, 99999, 1000000000, 1000000001, INT32_MAX, INT32_MIN};
+    return one_in(r, 3) ? (int32_t)(uint32_t)random_bits(r) : values[random_bits(r) % 15];
+}
+
+/* Changes one word of both books, but for the first four. */
+static void damage_word(struct list *l, struct random *r, const struct scene *scene)
+{
+    int i = (int)(random_bits(r) % SCENE_KEYS);
+    int f = scene->keys[i].facility % l->facilities, s = scene->keys[i].service % l->services;
+    int64_t period = scene->keys[i].period < 0 ? 0 : scene->keys[i].period;
+    size_t cell = place_of_cell(l->facilities, l->services, f, s, (int)between(r, 0, 1), period % 336);
+    switch (random_bits(r) % 12) {
+    case 0: set_both(l, (size_t)between(r, 5, 16), odd_value(r)); break;
+    case 1: set_both(l, 64 + 32 * (size_t)f + (size_t)between(r, 0, 18), odd_value(r)); break;
+    case 2: set_both(l, (size_t)between(r, 5, (int64_t)l->needed - 1), odd_value(r)); break;
+    case 3: set_both(l, cell, one_in(r, 2) ? odd_value(r) : (int32_t)(period + 1 + 336 * between(r, -1, 1))); break;
+    case 4: set_both(l, 4, (int32_t)between(r, 0, one_in(r, 4) ? 1000000000 : 30 * period % 1000000000)); break;
+    default: set_both(l, cell + (size_t)between(r, 1, 23), odd_value(r)); break;
+    }
+}
+
+/* Quantities that only a damaged book holds, in an offer near gate closure; then variations of it and readings. */
+static void damaged_near_gate(struct list *l, struct random *r, struct scene *scene)
+{
+    int64_t now = l->plain[4];
+    if (now < 0 || now > 1000000000 || !usable_sizes(l))
+        return;
+    int f = scene->active[random_bits(r) % SCENE_FACILITIES] % scene->facilities;
+    int s = (int)between(r, 0, scene->services - 1), variation = (int)between(r, 0, 1);
+    int64_t period = now / 30 + between(r, 1, 2);
+    size_t block = 64 + 32 * (size_t)f;
+    size_t cell = place_of_cell(scene->facilities, scene->services, f, s, variation, period % 336);
+    set_both(l, block, one_in(r, 6) ? odd_value(r) : (int32_t)between(r, 1, 2));
+    set_both(l, block + 12 + (size_t)s, 1);
+    set_both(l, cell, variation ? (int32_t)period + 1 : 1);
+    for (int i = 0; i < 10; i++) {
+        int32_t quantity = one_in(r, 3) ? (int32_t)between(r, -60, 60) : one_in(r, 4) ? odd_value(r) : 0;
+        set_both(l, cell + 4 + 2 * (size_t)i, 100 * i + (int32_t)between(r, -60, 60));
+        set_both(l, cell + 5 + 2 * (size_t)i, quantity);
+    }
+    for (int i = 0; i < 6 && !l->is_wrong; i++) {
+        struct record record = i == 0 ? look_up_of(f, s, (int32_t)period) : i == 1 ? total_of(s, (int32_t)period)
+                                                                     : random_variation(r, scene, f, s, period);
+        compared_call(l, r, record.bytes, sizeof record.bytes);
+    }
+}
+
+static void damaged_round(struct list *l, struct random *r, struct scene *scene)
+{
+    int32_t head[4];
+    memcpy(head, l->plain, sizeof head);
+    l->lent = l->needed + (size_t)between(r, 0, GUARD);
+    if (one_in(r, 12)) {
+        static const size_t few[] = {0, 1, 63, 64, 65};
+        l->lent = one_in(r, 2) ? few[random_bits(r) % 5] : l->needed - 1;
+    } else if (one_in(r, 6)) {
+        set_both(l, (size_t)between(r, 0, 3), odd_value(r));
+    }
+    for (int64_t i = between(r, 1, 6); i > 0; i--)
+        damage_word(l, r, scene);
+    if (usable_sizes(l)) {
+        scene->facilities = l->plain[2];
+        scene->services = l->plain[3];
+    }
+    if (one_in(r, 2))
+        damaged_near_gate(l, r, scene);
+    for (int64_t i = between(r, 4, 20); i > 0 && !l->is_wrong; i--) {
+        uint8_t bytes[LONGEST_RECORD];
+        size_t length = random_call(r, scene, bytes);
+        compared_call(l, r, bytes, length);
+    }
+    /* the head's first words are mended, so that later rounds aren't all refused with 1 */
+    for (size_t i = 0; i < 4; i++)
+        set_both(l, i, head[i]);
+    scene->facilities = l->facilities;
+    scene->services = l->services;
+}
+
+static void damaged_part(struct list *l, struct random *r, struct scene *scene)
+{
+    l->is_damaged = true;
+    damaged_lists++;
+    for (int64_t rounds = between(r, 1, 4); rounds > 0 && !l->is_wrong; rounds--)
+        damaged_round(l, r, scene);
+}
+
+static void one_list(struct list *l, struct random *r)
+{
+    struct scene scene;
+    int32_t most = one_in(r, 2) ? 3 : one_in(r, 2) ? 8 : 64;
+    l->facilities = one_in(r, 30) ? 64 : (int32_t)between(r, 1, most);
+    l->services = one_in(r, 2) ? 1 : 5;
+    l->needed = BILZHAAN_BOOK_WORDS(l->facilities, l->services);
+    l->lent = l->needed + (size_t)between(r, 0, GUARD);
+    l->call = 0;
+    l->length = 0;
+    l->is_damaged = l->is_wrong = false;
+    int32_t *library = malloc((l->needed + 2 * GUARD) * sizeof library[0]);
+    int32_t *plain = malloc((l->needed + 2 * GUARD) * sizeof plain[0]);
+    if (!library || !plain) {
+        fprintf(stderr, "no memory for a book of %zu words\n", l->needed);
+        exit(2);
+    }
+    l->library = library + GUARD;
+    l->plain = plain + GUARD;
+    open_list(l, r);
+    scene_of(&scene, r, l->plain, l->facilities, l->services);
+    prologue(l, r, &scene);
+    for (int64_t calls = between(r, 20, 260); calls > 0 && !l->is_wrong; calls--) {
+        uint8_t bytes[LONGEST_RECORD];
+        size_t length = random_call(r, &scene, bytes);
+        compared_call(l, r, bytes, length);
+    }
+    check(l, same_words(l), "words differ at the end of the list");
+    if (one_in(r, 2) && !l->is_wrong)
+        damaged_part(l, r, &scene);
+    check(l, same_words(l), "words differ at the end of the damaged part");
+    check(l, guards_stand(l), "words outside the book were written");
+    list_machine_close(&l->machine);
+    free(library);
+    free(plain);
+}
+
+/* ---- what must have been tried ---- */
+
+static void tried(const char *what, int which, long times)
+{
+    if (times > 0) {
+        passed++;
+    } else {
+        failed++;
+        printf("never tried: %s %d\n", what, which);
+    }
+}
+
+static void print_counts(void)
+{
+    printf("%ld lists, %ld of them damaged at the end\nnumbers drawn:", lists, damaged_lists);
+    for (int i = 0; i < 20; i++)
+        printf(" %d:%ld", i, drawn[i]);
+    printf("\naccepted calls:");
+    for (int i = 1; i <= 9; i++)
+        printf(" %d:%ld", i, accepted[i]);
+    printf("\nvariations accepted inside gate closure by reason:");
+    for (int i = 1; i <= 6; i++)
+        printf(" %d:%ld", i, inside_gate[i]);
+    printf("\nlook-ups past a variation of another period of the slot: %ld\n", past_another_period);
+    for (int i = 0; i < 20; i++)
+        tried("number", i, drawn[i]);
+    for (int i = 1; i <= 9; i++)
+        tried("accepted call", i, accepted[i]);
+    for (int i = 1; i <= 6; i++)
+        tried("reason inside gate closure", i, inside_gate[i]);
+    tried("another period of the slot", 0, past_another_period);
+}
+
+static double seconds_now(void)
+{
+    struct timespec t;
+    clock_gettime(CLOCK_MONOTONIC, &t);
+    return (double)t.tv_sec + (double)t.tv_nsec / 1e9;
+}
+
+int main(int argc, char **argv)
+{
+    double seconds = argc > 1 ? atof(argv[1]) : 20;
+    struct list l;
+    memset(&l, 0, sizeof l);
+    l.seed = argc > 2 ? strtoull(argv[2], NULL, 10) : 1;
+    struct random r = {l.seed};
+    double end = seconds_now() + seconds;
+    printf("seed %" PRIu64 ", %g seconds\n", l.seed, seconds);
+    do {
+        l.number = ++lists;
+        one_list(&l, &r);
+    } while (seconds_now() < end && failed < FAILURES_SHOWN);
+    print_counts();
+    printf("%ld passed, %ld failed\n", passed, failed);
+    return failed != 0;
+}

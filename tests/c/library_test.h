@@ -1,0 +1,13 @@
+/* The groups of the library's test; each is in the file that it is named after. */
+#ifndef BILZHAAN_TESTS_LIBRARY_TEST_H
+#define BILZHAAN_TESTS_LIBRARY_TEST_H
+
+#include "check.h"
+
+void test_records(void);  /* library_record.c */
+void test_opening(void);  /* library_opening.c */
+void test_refusals(void); /* library_refusals.c */
+void test_gate(void);     /* library_gate.c */
+void test_damaged(void);  /* library_damaged.c */
+
+#endif

@@ -1,0 +1,43 @@
+/* Random calls for the differential test: most would be accepted or lie at an edge of a rule, some are damaged.
+ * What makes a call likely to be accepted is read from a book's words; a wrong hint costs only variety. */
+#ifndef BILZHAAN_TESTS_RANDOM_CALLS_H
+#define BILZHAAN_TESTS_RANDOM_CALLS_H
+
+#include "records.h"
+
+#include <stdbool.h>
+
+enum { LONGEST_RECORD = 224, SCENE_FACILITIES = 4, SCENE_KEYS = 16 };
+
+struct random {
+    uint64_t state;
+};
+
+uint64_t random_bits(struct random *r);
+int64_t between(struct random *r, int64_t low, int64_t high);
+bool one_in(struct random *r, int n);
+
+/* What a list of calls turns around: a few facilities, and the last keys that offers were filed for. */
+struct scene {
+    const int32_t *words;
+    int32_t facilities, services;
+    int active[SCENE_FACILITIES];
+    struct {
+        int facility, service;
+        int64_t period;
+    } keys[SCENE_KEYS];
+    unsigned filed;
+};
+
+void scene_of(struct scene *scene, struct random *r, const int32_t *words, int32_t facilities, int32_t services);
+
+/* The cell of (f, s, standing 0 or variation 1, slot), as a place in the words. */
+size_t place_of_cell(int32_t facilities, int32_t services, int f, int s, int h, int64_t slot);
+
+/* Writes a call into the bytes and returns its length, 0 to 224. */
+size_t random_call(struct random *r, struct scene *scene, uint8_t bytes[LONGEST_RECORD]);
+
+/* A variation of this facility and service for this period, mostly near to the offer that stands. */
+struct record random_variation(struct random *r, struct scene *scene, int f, int s, int64_t period);
+
+#endif

@@ -1,0 +1,794 @@
+"""Tests of tools/records.py: its bytes against hex written by hand, amounts, bad arguments, explanations, the vectors; and docs/REFUSALS.md's sums.
+Run it directly, or with python3 -m unittest tests/records_test.py."""
+import contextlib
+import io
+import os
+import pty
+import random
+import re
+import subprocess
+import sys
+import tempfile
+import unittest
+from decimal import Decimal
+
+HERE = os.path.dirname(os.path.abspath(__file__))
+ROOT = os.path.dirname(HERE)
+TOOL = os.path.join(ROOT, 'tools', 'records.py')
+sys.dont_write_bytecode = True
+sys.path.insert(0, os.path.dirname(TOOL))
+
+import records  # noqa: E402
+import records_amounts  # noqa: E402
+from records_arguments import COMMANDS, TOP  # noqa: E402
+from records_explain import REFUSALS, command_for, explain_answer, explain_record  # noqa: E402
+from records_layout import any_book_refuses, build, record_test  # noqa: E402
+
+# Document 01, "Cases": "Output whole".
+PRINTED = ['0 0 0', '0 0 0', '0 1 700', '0 0 0', '0 2 300', '0 1 300', '10 0 0', '0 0 0', '0 1 700']
+
+
+def run(words):
+    """Status, standard output as bytes, standard error, of the tool's main."""
+    output, errors = io.TextIOWrapper(io.BytesIO(), encoding='utf-8'), io.StringIO()
+    with contextlib.redirect_stdout(output), contextlib.redirect_stderr(errors):
+        status = records.main(words)
+        output.flush()
+    return status, output.buffer.getvalue(), errors.getvalue()
+
+
+def contents(*path):
+    with open(os.path.join(*path), 'rb') as file:
+        return file.read()
+
+
+def from_hex(text):
+    return bytes.fromhex(''.join(line.split('#')[0] for line in text.splitlines()))
+
+
+def head(text):
+    """Bytes 0 to 31 in hex, and zeros after them."""
+    return from_hex(text) + bytes(80)
+
+
+class Tool(unittest.TestCase):
+    def made(self, line):
+        status, output, errors = run(line.split())
+        self.assertEqual((status, errors), (0, ''), line)
+        return output
+
+    def explained(self, line):
+        return self.made('explain ' + line).decode()
+
+    def refused(self, words):
+        """The one line of the error; nothing is written."""
+        status, output, errors = run(words)
+        self.assertEqual((status, output), (2, b''), words)
+        self.assertTrue(errors.startswith('records.py') and errors.endswith('\n') and errors.count('\n') == 1, errors)
+        return errors
+
+
+class BytesByHand(Tool):
+    def test_clock(self):
+        want = head('534f42 0001 01 00 00 00000000 00 00 0000 00000000 00000000 3b9aca00 00000000')
+        self.assertEqual(self.made('clock --minute 1000000000'), want)
+
+    def test_capability(self):
+        want = from_hex('''534f42 0001 02 3f 00 00000000 00 00 0000 00000000 00000000 00000000 00000000
+            00000001 00000514 00000320 00000064 0000006e 00000078 00000082 0000000f 00000014
+            000001f4 00000271 000003e8 00000001 00000001 00000000 00000001 00000001 00000000 00000000 00000000''')
+        self.assertEqual(self.made(
+            'capability --facility 63 --kind generation --max-generation 1300 --max-combined 800 --max-primary 100 --max-secondary 110'
+            ' --max-contingency 120 --max-regulation 130 --max-ramp-up 15 --max-ramp-down 20 --max-primary-proportion 500'
+            ' --max-secondary-proportion 625 --max-contingency-proportion 1000 --registered energy,primary,contingency,regulation'), want)
+
+    def test_capability_of_a_load(self):
+        want = from_hex('''534f42 0001 02 01 00 00000000 00 00 0000 00000000 00000000 00000000 00000000
+            00000002 00000000 00000000 00000000 00000000 00000078 00000000 00000000 00000000 00000000
+            00000000 00000000 00000000 00000000 00000000 00000001 00000000 00000000 00000000 00000000''')
+        self.assertEqual(self.made('capability --facility 1 --kind load --max-contingency 12.0MW --registered 3'), want)
+
+    def test_standing_offer_for_energy(self):
+        want = from_hex('''534f42 0001 03 02 00 0000014f 00 00 0000 0000000f 00000014 00000000 00000000
+            ffffffff 00000001 00000000 00000000 00000fa0 000001f4 00001388 000000c8 00000000 00000000
+            00000000 00000000 00000000 00000000 00000000 00000000 00000000 00000000 0006ddd0 0001869e''')
+        self.assertEqual(self.made('standing --facility 2 --service energy --slot 335 --ramp-up 15 --ramp-down 20'
+                                   ' --pairs 1@-1,0@0,500@4000,200@5000,0@0,0@0,0@0,0@0,0@0,99998@450000 --anyway'), want)
+
+    def test_standing_offer_for_reserve(self):
+        want = from_hex('''534f42 0001 03 00 02 00000000 00 00 0271 00000000 00000000 00000000 00000000
+            00000001 00000002 00000003 00000004 00000005 00000006 00000007 00000008 00000009 0000000a''' + '00000000' * 10)
+        self.assertEqual(self.made('standing --facility 0 --service secondary --slot 0 --proportion 625 --pairs 2@1,4@3,6@5,8@7,10@9'), want)
+
+    def test_variation(self):
+        want = from_hex('''534f42 0001 04 05 00 00000154 04 00 0000 00000000 00000000 00000000 00000000
+            fff92230 000001f4 00001388 0000012c''' + '00000000' * 16)
+        self.assertEqual(self.made('variation --facility 5 --service energy --period 340 --reason shortfall --pairs 500@-450000,300@5000'), want)
+
+    def test_variation_for_regulation(self):
+        want = from_hex('''534f42 0001 04 00 04 00000004 06 00 0000 00000000 00000000 00000000 00000000
+            00000000 00000064''' + '00000000' * 18)
+        self.assertEqual(self.made('variation --facility 0 --service 4 --period 4 --reason 6 --pairs 100@0'), want)
+
+    def test_outage(self):
+        want = head('534f42 0001 05 02 00 00000000 00 00 0000 00000000 00000000 00000064 00000003')
+        self.assertEqual(self.made('outage --facility 2 --minute 100 --periods 3'), want)
+
+    def test_notice(self):
+        want = head('534f42 0001 06 00 00 00000000 04 00 0000 00000000 00000000 00000004 02625a00')
+        self.assertEqual(self.made('notice --kind shortfall --first 4 --last 40000000'), want)
+
+    def test_withdrawal(self):
+        want = head('534f42 0001 07 00 00 00000000 05 00 0000 00000000 00000000 00000000 00000000')
+        self.assertEqual(self.made('withdrawal'), want)
+        self.assertEqual(self.made('withdrawal --kind status'), want)
+
+    def test_look_up(self):
+        want = head('534f42 0001 08 3f 03 0000014f 00 00 0000 00000000 00000000 00000000 00000000')
+        self.assertEqual(self.made('look-up --facility 63 --service contingency --period 335'), want)
+
+    def test_total(self):
+        want = head('534f42 0001 09 00 04 00000030 00 00 0000 00000000 00000000 00000000 00000000')
+        self.assertEqual(self.made('total --service regulation --period 48'), want)
+
+
+class WorkedRun(Tool):
+    def test_nine_records(self):
+        want = from_hex(contents(HERE, 'worked-run.hex').decode())
+        self.assertEqual(len(want), 9 * 112)
+        self.assertEqual(self.made('sample'), want)
+        self.assertEqual(contents(ROOT, 'samples', 'worked-run.records'), want)
+
+    def test_nine_lines(self):
+        self.assertEqual(contents(ROOT, 'samples', 'worked-run.txt').decode(), '\n'.join(PRINTED) + '\n')
+
+    def test_explained_with_its_answers(self):
+        folder = os.path.join(ROOT, 'samples')
+        text = self.explained(f'{folder}/worked-run.records --answers {folder}/worked-run.txt --facilities 1 --services 1')
+        answers = re.findall(r'  answer (.*)\n    (.*)', text)
+        self.assertEqual([line for line, _ in answers], PRINTED)
+        self.assertEqual([words for _, words in answers], [
+            'accepted', 'accepted', 'the standing offer is in force, 70.0 MW in all', 'accepted', 'the variation is in force, 30.0 MW in all',
+            '1 facility has an offer in force, 30.0 MW in all',
+            'refused with 10, drawn by the coordinator or reader: slot outside 0 to 335, or the period has begun or is past the horizon',
+            'accepted', 'the standing offer is in force, 70.0 MW in all'])
+        self.assertEqual(text.count('F 1, S 1: 0, passes'), 9)
+
+
+class Amounts(Tool):
+    def test_mw_and_dollars_are_tenths_and_cents(self):
+        start = 'standing --facility 0 --service energy --slot 4 '
+        for people, units in (
+                ('--mw 50.0@40.00,20.0@50.00', '--pairs 500@4000,200@5000'), ('--mw 50@40,20@50', '--pairs 500@4000,200@5000'),
+                ('--mw 0.3@0.29,1.1@1.15', '--pairs 3@29,11@115'), ('--mw 9999.9@-4500.00', '--pairs 99999@-450000'),
+                ('--mw 0.1@-0.01,0.0@0.00,0.1@0.1', '--pairs 1@-1,0@0,1@10'), ('--mw 0.7@-0.57 --ramp-up 1.5MW --ramp-down 0.3MW/min',
+                                                                              '--pairs 7@-57 --ramp-up 15 --ramp-down 3')):
+            self.assertEqual(self.made(start + people), self.made(start + units), people)
+
+    def test_units_in_a_capability(self):
+        self.assertEqual(
+            self.made('capability --facility 0 --kind 1 --max-generation 130.0MW --max-combined 80MW --max-ramp-up 999.9MW/min --max-primary-proportion 62.5%'),
+            self.made('capability --facility 0 --kind 1 --max-generation 1300 --max-combined 800 --max-ramp-up 9999 --max-primary-proportion 625'))
+
+    def test_every_amount_comes_back(self):
+        for cents in list(range(-450000, 450001, 97)) + list(range(-301, 302)):
+            self.assertEqual(records_amounts.dollars(str(Decimal(cents).scaleb(-2))), cents)
+            self.assertEqual(records_amounts.show_price(cents), f"{'-' if cents < 0 else ''}${Decimal(abs(cents)).scaleb(-2):.2f}/MWh")
+        for tenths in list(range(0, 100000, 37)) + [99999]:
+            self.assertEqual(records_amounts.megawatts(str(Decimal(tenths).scaleb(-1))), tenths)
+            self.assertEqual(records_amounts.show_mw(tenths), f'{Decimal(tenths).scaleb(-1):.1f} MW')
+
+    def test_times(self):
+        for line, same in (
+                ('clock --minute 1/00:00', 'clock --minute 1440'), ('clock --minute 0/00:55', 'clock --minute 55'),
+                ('look-up --facility 0 --service 0 --period 7/02:00', 'look-up --facility 0 --service 0 --period 340'),
+                ('standing --facility 0 --service 0 --slot Mon/02:00 --pairs 1@1', 'standing --facility 0 --service 0 --slot 4 --pairs 1@1'),
+                ('standing --facility 0 --service 0 --slot sun/23:30 --pairs 1@1', 'standing --facility 0 --service 0 --slot 335 --pairs 1@1'),
+                ('notice --kind 3 --first 0/00:30 --last 1/00:00', 'notice --kind surplus --first 1 --last 48')):
+            self.assertEqual(self.made(line), self.made(same), line)
+
+
+class BadArguments(Tool):
+    OFFER = 'standing --facility 0 --service energy --slot 4 '
+    TABLE = (
+        ('', 'required: COMMAND'),
+        ('offer --facility 0', "invalid choice: 'offer'"),
+        ('clock', 'required: --minute'),
+        ('clock --minute', 'expected one argument'),
+        ('clock --minute 5 --minute 6', '--minute is given twice'),
+        ('clock --minute 5 6', 'unrecognized arguments: 6'),
+        ('clock --min 5', 'required: --minute'),
+        ('clock --minute five', "'five' is not a whole number"),
+        ('clock --minute 1e3', "'1e3' is not a whole number"),
+        ('clock --minute 1_000', "'1_000' is not a whole number"),
+        ('clock --minute ٣', 'is not a whole number'),
+        ('clock --minute 2147483648', 'is outside -2147483648 to 2147483647'),
+        ('clock --minute 1000000001', 'refuses this with 6'),
+        ('clock --minute -1', 'refuses this with 6'),
+        ('clock --minute 1/24:00', 'is not a time of day'),
+        ('clock --minute 1/9:00', 'is not a time of day'),
+        ('clock --minute Mon/09:00', "'Mon' is not a whole number"),
+        ('clock --minute 5 then', 'required: COMMAND'),
+        ('clock --minute 5 then explain', "explain stands alone"),
+        ('capability --facility 256 --kind load', 'facility 256 is outside 0 to 255'),
+        ('capability --facility 64 --kind load', 'refuses this with 3'),
+        ('capability --facility -1 --kind load', 'facility -1 is outside 0 to 255'),
+        ('capability --facility 0 --kind pump', "'pump' is no kind: generation, load"),
+        ('capability --facility 0 --kind 3', 'refuses this with 8'),
+        ('capability --facility 0 --kind load --registered energy', 'refuses this with 8'),
+        ('capability --facility 0 --kind load --registered primary,1', 'names a service twice'),
+        ('capability --facility 0 --kind load --registered primary,,', "is no service"),
+        ('capability --facility 0 --kind 1 --max-generation 100000', 'refuses this with 8'),
+        ('capability --facility 0 --kind 1 --max-generation 130.0', 'or the unit: 130.0MW'),
+        ('capability --facility 0 --kind 1 --max-generation 130.05MW', 'at most one decimal'),
+        ('capability --facility 0 --kind 1 --max-generation 130kW', "'130kW' is not a whole number"),
+        ('capability --facility 0 --kind 1 --max-ramp-up 1000.0MW', 'refuses this with 8'),
+        ('capability --facility 0 --kind 1 --max-primary-proportion 0.5', 'or the unit: 0.5%'),
+        ('capability --facility 0 --kind 1 --max-primary-proportion 50.05%', 'at most one decimal of a percent'),
+        ('capability --facility 0 --kind 1 --max-primary-proportion 1001', 'refuses this with 8'),
+        (OFFER, 'one of the arguments --pairs --mw is required'),
+        (OFFER + '--pairs 1@1 --mw 1@1', 'not allowed with argument'),
+        (OFFER + '--pairs 500', "'500' is not QUANTITY@PRICE"),
+        (OFFER + '--pairs 500@', "'' is not a whole number"),
+        (OFFER + '--pairs 500@4000,', "'' is not QUANTITY@PRICE"),
+        (OFFER + '--pairs 500@40@2', "is not QUANTITY@PRICE"),
+        (OFFER + '--pairs 50.0@4000', "'50.0' is not a whole number"),
+        (OFFER + '--mw 50.0@40.005', "'40.005': a price has at most two decimals"),
+        (OFFER + '--mw 50.05@40.00', "'50.05': a quantity has at most one decimal"),
+        (OFFER + '--mw 50.@40.00', "'50.' is not a decimal number"),
+        (OFFER + '--mw 50.0@.5', "'.5' is not a decimal number"),
+        (OFFER + '--mw 50.0@nan', "'nan' is not a decimal number"),
+        (OFFER + '--mw 50.0@1e2', "'1e2' is not a decimal number"),
+        (OFFER + '--mw 50.0@4,500.00', "'500.00' is not QUANTITY@PRICE"),
+        (OFFER + '--mw 50.0@99999999999.00', 'is outside'),
+        (OFFER + '--pairs ' + ','.join(f'1@{n}' for n in range(1, 12)), '11 pairs, and an offer for energy has 10'),
+        (OFFER + '--pairs 1@1 --proportion 500', 'an offer for energy has no proportion'),
+        (OFFER + '--pairs 1@1 --ramp-up -1', 'refuses this with 14'),
+        (OFFER + '--pairs 1@1 --ramp-up 10000', 'refuses this with 14'),
+        (OFFER + '--pairs 1@1 --reason 1', 'unrecognized arguments'),
+        (OFFER + '--pairs=-1@1', 'refuses this with 11'),
+        (OFFER + '--pairs 100000@1', 'refuses this with 11'),
+        (OFFER + '--pairs 1@10000001', 'refuses this with 11'),
+        (OFFER + '--pairs 1@-10000001', 'refuses this with 11'),
+        (OFFER + '--pairs 0@5000', 'refuses this with 12'),
+        (OFFER + '--pairs 1@5000,1@4000', 'refuses this with 13'),
+        (OFFER + '--pairs 1@5000,0@0,1@5000', 'refuses this with 13'),
+        (OFFER + '--pairs 99999@1,1@2', 'refuses this with 16'),
+        ('standing --facility 0 --service reserve --slot 4 --pairs 1@1', "'reserve' is no service"),
+        ('standing --facility 0 --service 5 --slot 4 --pairs 1@1', 'service 5 is outside 0 to 4'),
+        ('standing --facility 0 --service energy --slot 336 --pairs 1@1', 'refuses this with 10'),
+        ('standing --facility 0 --service energy --slot Mo/02:00 --pairs 1@1', "'Mo' is not one of Mon"),
+        ('standing --facility 0 --service energy --slot Mon/02:15 --pairs 1@1', 'a period starts at :00 or :30'),
+        ('standing --facility 0 --service primary --slot 4 --pairs 1@1 --ramp-up 5', 'an offer for primary has no ramp up'),
+        ('standing --facility 0 --service primary --slot 4 --pairs 1@-1', 'refuses this with 11'),
+        ('standing --facility 0 --service primary --slot 4 --pairs 1@1 --proportion 65536', 'proportion 65536 is outside 0 to 65535'),
+        ('standing --facility 0 --service primary --slot 4 --pairs 1@1 --proportion -1', 'proportion -1 is outside 0 to 65535'),
+        ('standing --facility 0 --service regulation --slot 4 --pairs 1@1 --proportion 5', 'an offer for regulation has no proportion'),
+        ('standing --facility 0 --service regulation --slot 4 --pairs 1@1,1@2,1@3,1@4,1@5,1@6', '6 pairs, and an offer for regulation has 5'),
+        ('variation --facility 0 --service energy --period 4 --pairs 1@1 --reason 7', 'refuses this with 11'),
+        ('variation --facility 0 --service energy --period 4 --pairs 1@1 --reason 256', 'reason 256 is outside 0 to 255'),
+        ('variation --facility 0 --service energy --period 4 --pairs 1@1 --reason trip', "'trip' is no reason"),
+        ('variation --facility 0 --service energy --period 0 --pairs 1@1', 'refuses this with 10'),
+        ('variation --facility 0 --service energy --slot 4 --pairs 1@1', 'required: --period'),
+        ('outage --facility 0 --minute 5 --periods 0', 'refuses this with 7'),
+        ('outage --facility 0 --minute 5 --periods 49', 'refuses this with 7'),
+        ('outage --facility 0 --minute -5 --periods 1', 'refuses this with 7'),
+        ('notice --kind 2 --first 1 --last 2', 'refuses this with 7'),
+        ('notice --kind status --first 3 --last 2', 'refuses this with 7'),
+        ('notice --kind status --first -1 --last 2', 'refuses this with 7'),
+        ('notice --kind status --first 1 --last 40000001', 'refuses this with 7'),
+        ('notice --kind storm --first 1 --last 2', "'storm' is no notice"),
+        ('withdrawal --kind shortfall', 'refuses this with 7'),
+        ('look-up --facility 0 --service energy --period -1', 'refuses this with 10'),
+        ('look-up --facility 0 --service energy --period 1/02:10', 'a period starts at :00 or :30'),
+        ('total --facility 0 --service energy --period 4', 'unrecognized arguments'),
+        ('total --service energy --period 33333648', 'refuses this with 10'),
+        ('sample --out a --append b', 'not allowed with argument'),
+        ('clock --minute 1 --out a then clock --minute 2 --out b', 'say once where the records go'),
+        ('sample --out /no/such/folder/x', 'No such file'),
+        ('explain /no/such/file', 'No such file'),
+        ('explain --record 53x', 'not pairs of hex digits'),
+        ('explain --answer 0 1', 'an answer is 3 numbers'),
+        ('explain --answer 21 0 0', 'number 21 is outside 0 to 20'),
+        ('explain --answer 0 x 0', "'x' is not a whole number"),
+        ('explain --answer 0 2147483648 0', 'is outside'),
+        ('explain --answer 0 1 700 --call clock --record 00', '--answer stands alone'),
+        ('explain --record 00 --call clock', '--call goes with --answer'),
+        ('explain --record 00 --facilities one', "'one' is not a whole number"),
+    )
+
+    def test_each(self):
+        for line, message in self.TABLE:
+            with self.subTest(line):
+                self.assertIn(message, self.refused(line.split()))
+
+    def test_each_bound_of_a_capability(self):
+        """Refusal 8: 'W1-W6 outside 0-99,999; W7, W8 outside 0-9,999; W9-W11 outside 0-1,000; a mark not 0 or 1; load with mark 0 or 4 set'."""
+        tops = {1: 99999, 2: 99999, 3: 99999, 4: 99999, 5: 99999, 6: 99999, 7: 9999, 8: 9999, 9: 1000, 10: 1000, 11: 1000,
+                12: 1, 13: 1, 14: 1, 15: 1, 16: 1}
+        for kind in (1, 2):
+            for place, top in tops.items():
+                for value, fits in ((0, True), (top, kind == 1 or place not in (12, 16)), (top + 1, False), (-1, False)):
+                    words = [kind] + [0] * 16
+                    words[place] = value
+                    self.assertEqual(any_book_refuses(build(2, words=words))[0], 0 if fits else 8, words)
+
+    def test_the_last_period_of_all_is_made(self):
+        # The clock ends at 1,000,000,000, in day 694,444: P below 48 * 694,451.
+        self.assertEqual(len(self.made('total --service energy --period 33333647')), 112)
+
+    def test_anyway(self):
+        self.assertEqual(self.made('clock --minute -1 --anyway'),
+                         head('534f42 0001 01 00 00 00000000 00 00 0000 00000000 00000000 ffffffff 00000000'))
+
+    def test_status_of_the_program(self):
+        bad = subprocess.run([sys.executable, TOOL, 'clock', '--minute', 'x'], capture_output=True, check=False)
+        self.assertEqual((bad.returncode, bad.stdout, bad.stderr.count(b'\n')), (2, b'', 1))
+        good = subprocess.run([sys.executable, TOOL, 'withdrawal'], capture_output=True, check=False)
+        self.assertEqual((good.returncode, len(good.stdout), good.stderr), (0, 112, b''))
+
+
+class Help(Tool):
+    def test_each_command_has_help(self):
+        for name in [''] + list(COMMANDS) + ['sample', 'explain']:
+            with self.assertRaises(SystemExit) as stop:
+                with contextlib.redirect_stdout(io.StringIO()) as text:
+                    records.main([name, '--help'] if name else ['--help'])
+            self.assertEqual(stop.exception.code, 0)
+            self.assertIn(f'usage: records.py {name}'.strip(), text.getvalue())
+
+    def test_its_examples_work(self):
+        lines = re.findall(r'^  records.py (.*)$', TOP.replace('\\\n', ' '), re.M)
+        self.assertEqual(len(lines), 6)
+        for line in lines:
+            words = re.sub(r'(--append|>) \S+', '', line).split()
+            if words != ['explain', 'day.records']:
+                self.assertTrue(self.made(' '.join(words)), line)
+
+
+class Writing(Tool):
+    def setUp(self):
+        self.folder = tempfile.TemporaryDirectory()
+        self.addCleanup(self.folder.cleanup)
+        self.file = os.path.join(self.folder.name, 'day.records')
+
+    def test_hex(self):
+        self.assertEqual(self.made('withdrawal --hex'), self.made('withdrawal').hex().encode() + b'\n')
+        self.assertEqual(self.made('sample --hex').decode().split(), [self.made('sample')[n:n + 112].hex() for n in range(0, 9 * 112, 112)])
+
+    def test_several_in_one_run(self):
+        both = self.made('clock --minute 1 then withdrawal then sample')
+        self.assertEqual(both, self.made('clock --minute 1') + self.made('withdrawal') + self.made('sample'))
+
+    def test_none_is_written_if_one_is_wrong(self):
+        self.refused(f'clock --minute 1 --out {self.file} then clock --minute x'.split())
+        self.assertFalse(os.path.exists(self.file))
+
+    def test_out_replaces_and_append_adds(self):
+        self.assertEqual(self.made(f'clock --minute 1 --append {self.file}'), b'')
+        self.assertEqual(self.made(f'clock --minute 2 --append {self.file}'), b'')
+        self.assertEqual(contents(self.file), self.made('clock --minute 1 then clock --minute 2'))
+        self.assertEqual(self.made(f'withdrawal --out {self.file}'), b'')
+        self.assertEqual(contents(self.file), self.made('withdrawal'))
+
+    def test_nothing_is_added_to_a_torn_file(self):
+        with open(self.file, 'wb') as file:
+            file.write(bytes(111))
+        self.assertIn('111 bytes, not whole records', self.refused(f'withdrawal --append {self.file}'.split()))
+        self.assertEqual(contents(self.file), bytes(111))
+
+    @unittest.skipUnless(os.path.exists('/dev/full'), 'no /dev/full here')
+    def test_a_full_disk(self):
+        for words in (['sample'], ['explain', os.path.join(ROOT, 'samples', 'worked-run.records')]):
+            with open('/dev/full', 'wb') as full:
+                done = subprocess.run([sys.executable, TOOL, *words], stdout=full, stderr=subprocess.PIPE, check=False)
+            self.assertEqual((done.returncode, done.stderr), (2, b'records.py: standard output: No space left on device\n'))
+
+    def on_a_terminal(self, *words):
+        ours, theirs = pty.openpty()
+        try:
+            done = subprocess.run([sys.executable, TOOL, *words], stdout=theirs, stderr=subprocess.PIPE, check=False)
+            os.set_blocking(ours, False)
+            try:
+                written = os.read(ours, 4096)
+            except BlockingIOError:
+                written = b''
+        finally:
+            os.close(ours)
+            os.close(theirs)
+        return done.returncode, written, done.stderr
+
+    def test_no_bytes_to_a_terminal_unless_asked(self):
+        status, written, errors = self.on_a_terminal('withdrawal')
+        self.assertEqual((status, written), (2, b''))
+        self.assertIn(b'this is a terminal', errors)
+        status, written, _ = self.on_a_terminal('withdrawal', '--hex')
+        self.assertEqual((status, written.strip()), (0, self.made('withdrawal').hex().encode()))
+        status, written, _ = self.on_a_terminal('withdrawal', '--terminal')
+        self.assertEqual((status, written[:3]), (0, b'SOB'))
+
+
+def rows_of(text):
+    """The label and text of each row of one explained record."""
+    return dict(re.split(r'  +', line.strip(), maxsplit=1) for line in text.splitlines()[1:])
+
+
+class Shown(Tool):
+    def rows(self, line):
+        return rows_of('\n'.join(explain_record(self.made(line), 64, 5)))
+
+    def test_times(self):
+        for line, label, text in (
+                ('clock --minute 0', 'minute', '0 (day 0, Monday, 00:00)'), ('clock --minute 1439', 'minute', '1439 (day 0, Monday, 23:59)'),
+                ('clock --minute 1440', 'minute', '1440 (day 1, Tuesday, 00:00)'), ('clock --minute 11585', 'minute', '11585 (day 8, Tuesday, 01:05)'),
+                ('clock --minute -1 --anyway', 'minute', '-1 (before day 0)'),
+                ('total --service 0 --period 340', 'period', '340 (day 7, Monday, 02:00 to 02:30; slot 4)'),
+                ('total --service 0 --period 335', 'period', '335 (day 6, Sunday, 23:30 to 24:00; slot 335)'),
+                ('total --service 0 --period 48', 'period', '48 (day 1, Tuesday, 00:00 to 00:30; slot 48)'),
+                ('total --service 0 --period -1 --anyway', 'period', '-1 (before day 0)'),
+                ('standing --facility 0 --service 0 --slot 335 --pairs 1@1', 'slot', '335 (Sunday, 23:30 to 24:00)'),
+                ('standing --facility 0 --service 0 --slot 48 --pairs 1@1', 'slot', '48 (Tuesday, 00:00 to 00:30)'),
+                ('standing --facility 0 --service 0 --slot 336 --pairs 1@1 --anyway', 'slot', '336 (slots are 0 to 335)')):
+            self.assertEqual(self.rows(line)[label], text, line)
+
+    def test_last_open_minute(self):
+        """'A variation is open when 30 P - now is 65 or more.'"""
+        for period in list(range(1, 60)) + [340]:
+            opened = [minute for minute in range(30 * period) if 30 * period - minute >= 65]
+            text = self.rows(f'variation --facility 0 --service 0 --period {period} --pairs 1@1')['gate open']
+            self.assertEqual(text.split(' (')[0], f'up to minute {opened[-1]}' if opened else 'at no minute; with a reason only')
+
+    def test_what_any_book_refuses_is_said(self):
+        rows = self.rows('standing --facility 0 --service energy --slot 4 --pairs 1@5000,1@4000 --anyway')
+        self.assertEqual(rows['any book'], 'refuses it with 13 or a lower number: prices of non-blank pairs do not strictly rise')
+        self.assertNotIn('any book', self.rows('withdrawal'))
+
+    def test_from_standard_input(self):
+        done = subprocess.run([sys.executable, TOOL, 'explain', '-'], input=self.made('sample'), capture_output=True, check=False)
+        self.assertEqual((done.returncode, done.stdout.count(b'passes'), done.stderr), (0, 9, b''))
+        nothing = subprocess.run([sys.executable, TOOL, 'explain'], input=b'', capture_output=True, check=False)
+        self.assertEqual((nothing.returncode, nothing.stdout), (0, b'no records\n'))
+
+
+class DamagedRecords(Tool):
+    STANDING = 'standing --facility 3 --service primary --slot 4 --proportion 500 --mw 5.0@1.00'
+
+    def explained_bytes(self, data, options=''):
+        return self.explained(f'--record {data.hex()} {options}')
+
+    def test_right(self):
+        rows = rows_of(self.explained_bytes(self.made(self.STANDING)))
+        self.assertEqual((rows['stray bytes'], rows['record test']), ('none', 'F 64, S 5: 0, passes'))
+
+    def test_short_and_long(self):
+        data = self.made(self.STANDING)
+        self.assertIn('F 64, S 5: 2: 111 bytes, 1 too few', self.explained_bytes(data[:-1]))
+        self.assertIn('F 64, S 5: 2: 113 bytes, 1 too many', self.explained_bytes(data + b'\0'))
+        self.assertIn('F 64, S 5: 2: 224 bytes, 112 too many', self.explained_bytes(data + data))
+        self.assertIn('5 bytes, 107 too few; call missing, not 1 to 9', self.explained_bytes(data[:5]))
+        self.assertIn('mark 53, not 534f42 (SOB); version missing', self.explained_bytes(data[:1]))
+
+    def test_every_length(self):
+        data = self.made(self.STANDING)
+        for length in range(1, 225):
+            text = self.explained_bytes((data + data)[:length])
+            self.assertEqual('passes' in text, length == 112, length)
+
+    def test_a_stream_ends_with_a_short_one(self):
+        with tempfile.NamedTemporaryFile() as file:
+            file.write(self.made('sample')[:-1])
+            file.flush()
+            text = self.explained(file.name)
+            self.assertEqual((text.count('record '), text.count('passes')), (9 + 9, 8))
+            self.assertIn('record 9: look-up (call 8)\n  record test  F 64, S 5: 2: 111 bytes, 1 too few\n', text)
+            self.assertIn('record 1: capability (call 2)\n  record test  F 64, S 5: 2: 1007 bytes, 895 too many\n', self.explained(f'{file.name} --whole'))
+
+    def test_form(self):
+        data = bytearray(self.made(self.STANDING))
+        for place, value, text in ((0, 0x54, 'mark 544f42, not 534f42'), (2, 0, 'mark 534f00'), (3, 1, 'version 0101, not 0001'),
+                                   (4, 2, 'version 0002, not 0001'), (5, 0, 'call 0, not 1 to 9'), (5, 10, 'call 10, not 1 to 9')):
+            damaged = bytearray(data)
+            damaged[place] = value
+            self.assertIn('F 64, S 5: 2: ' + text, self.explained_bytes(damaged))
+
+    def test_facility_and_service(self):
+        data = self.made(self.STANDING)
+        for options, text in (('--facilities 4 --services 5', 'F 4, S 5: 0, passes'), ('--facilities 3 --services 5', 'F 3, S 5: 3: facility 3, and F is 3'),
+                              ('--facilities 4 --services 1', 'F 4, S 1: 3: service 1, and S is 1'), ('--facilities 0 --services 5', 'F 0, S 5: 20:'),
+                              ('--facilities 65', 'F 65, S 5: 20:'), ('--facilities -1', 'F -1, S 5: 20:'), ('--services 2', 'F 64, S 2: 20:')):
+            self.assertIn(text, self.explained_bytes(data, options))
+        self.assertIn('F 0, S 5: 20:', self.explained_bytes(data[:5], '--facilities 0'))
+
+    def test_each_stray_byte(self):
+        """Every unused byte from 6 on of a record of each kind, set alone, is named; used ones are not."""
+        used = {
+            'clock --minute 5': {24, 25, 26, 27},
+            'capability --facility 0 --kind 1': {6} | set(range(32, 100)),
+            'standing --facility 0 --service energy --slot 4 --pairs 1@1': set(range(6, 12)) | set(range(16, 24)) | set(range(32, 112)),
+            'standing --facility 0 --service primary --slot 4 --pairs 1@1': set(range(6, 12)) | {14, 15} | set(range(32, 72)),
+            'standing --facility 0 --service contingency --slot 4 --pairs 1@1': set(range(6, 12)) | {14, 15} | set(range(32, 72)),
+            'standing --facility 0 --service regulation --slot 4 --pairs 1@1': set(range(6, 12)) | set(range(32, 72)),
+            'variation --facility 0 --service energy --period 4 --pairs 1@1': set(range(6, 13)) | set(range(16, 24)) | set(range(32, 112)),
+            'variation --facility 0 --service secondary --period 4 --pairs 1@1': set(range(6, 13)) | {14, 15} | set(range(32, 72)),
+            'variation --facility 0 --service regulation --period 4 --pairs 1@1': set(range(6, 13)) | set(range(32, 72)),
+            'outage --facility 0 --minute 5 --periods 1': {6} | set(range(24, 32)),
+            'notice --kind 3 --first 1 --last 1': {12} | set(range(24, 32)),
+            'withdrawal': {12},
+            'look-up --facility 0 --service energy --period 4': set(range(6, 12)),
+            'total --service energy --period 4': set(range(7, 12)),
+        }
+        for line, places in used.items():
+            data = self.made(line)
+            for place in set(range(6, 112)) - {7}:
+                damaged = bytearray(data)
+                damaged[place] |= 1
+                text = '\n'.join(explain_record(bytes(damaged), 64, 5))
+                self.assertEqual(f'F 64, S 5: 4: byte {place} (' in text, place not in places, (line, place))
+                self.assertEqual(re.search(r'stray bytes +none', text) is not None, place in places, (line, place))
+
+    def test_fields_of_stray_bytes(self):
+        data = bytearray(self.made('standing --facility 0 --service regulation --slot 4 --pairs 1@1'))
+        data[13], data[15], data[72], data[111] = 7, 8, 9, 10
+        text = rows_of(self.explained_bytes(data))['stray bytes']
+        self.assertEqual(text, 'byte 13 (byte 13) is 7; byte 15 (proportion) is 8; byte 72 (W10) is 9; byte 111 (W19) is 10')
+
+    def test_no_command_makes_a_damaged_record(self):
+        data = bytearray(self.made('withdrawal'))
+        data[13] = 1
+        self.assertNotIn('made by', self.explained_bytes(data))
+
+
+class RoundTrip(Tool):
+    """What is put in comes back: from the explanation's rows, and as the command that makes the same bytes."""
+
+    def setUp(self):
+        self.random = random.Random(20240101)
+
+    def check(self, words, want):
+        status, data, errors = run(words)
+        self.assertEqual((status, errors), (0, ''), words)
+        text = '\n'.join(explain_record(data, 64, 5))
+        rows = rows_of(text)
+        for label, value in want.items():
+            self.assertEqual(rows[label].split(' (')[0], value, (words, text))
+        self.assertEqual(run(rows['made by'].split())[1], data, words)
+
+    def amount(self, value, places, unit):
+        """A whole number, or the same amount with its unit."""
+        return str(value) if self.random.random() < 0.5 else f'{Decimal(value).scaleb(-places):.{places}f}{unit}'
+
+    def pairs(self, count, lowest):
+        """Pairs that any book might take: prices rise, the total is at most 9,999.9 MW, blanks anywhere."""
+        number = self.random.randint(1, count)
+        prices = sorted(self.random.sample(range(lowest, 450001), number))
+        quantities = [self.random.choice((0, self.random.randint(1, 99999 // count))) for _ in prices]
+        return [(quantity, price if quantity else 0) for price, quantity in zip(prices, quantities)]
+
+    def offer(self, service):
+        pairs = self.pairs(10 if service == 0 else 5, -450000 if service == 0 else 0)
+        show = [(f'{Decimal(q).scaleb(-1):.1f}', Decimal(p).scaleb(-2)) for q, p in pairs]
+        if self.random.random() < 0.5:
+            words = ['--pairs', ','.join(f'{q}@{p}' for q, p in pairs)]
+        else:
+            words = ['--mw', ','.join(f'{q}@{p:.2f}' for q, p in show)]
+        want = {f'pair {n}': f"{q} MW at {'-' if p < 0 else ''}${abs(p):.2f}/MWh" for n, (q, p) in enumerate(show, 1) if Decimal(q)}
+        want['total'] = f'{Decimal(sum(q for q, _ in pairs)).scaleb(-1):.1f} MW'
+        if service == 0:
+            up, down = self.random.randint(0, 9999), self.random.randint(0, 9999)
+            words += ['--ramp-up', self.amount(up, 1, 'MW/min'), '--ramp-down', self.amount(down, 1, 'MW')]
+            want.update({'ramp up': f'{Decimal(up).scaleb(-1):.1f} MW/min', 'ramp down': f'{Decimal(down).scaleb(-1):.1f} MW/min'})
+        if 1 <= service <= 3:
+            proportion = self.random.randint(0, 1000)
+            words += ['--proportion', self.amount(proportion, 1, '%')]
+            want['proportion'] = f'{Decimal(proportion).scaleb(-3):.3f}'
+        return words, want
+
+    def test_offers(self):
+        names = ('energy', 'primary reserve', 'secondary reserve', 'contingency reserve', 'regulation')
+        for _ in range(150):
+            facility, service, reason = self.random.randint(0, 63), self.random.randint(0, 4), self.random.randint(0, 6)
+            slot, period = self.random.randint(0, 335), self.random.randint(1, 33333647)
+            who = ['--facility', str(facility), '--service', self.random.choice((str(service), names[service].split()[0]))]
+            named = {'facility': str(facility), 'service': f'{service} {names[service]}'}
+            words, want = self.offer(service)
+            self.check(['standing', *who, '--slot', str(slot), *words], {**named, **want, 'slot': str(slot)})
+            self.check(['variation', *who, '--period', str(period), '--reason', str(reason), *words],
+                       {**named, **want, 'period': str(period), 'reason': f'{reason} ' + ('no reason', 'synchronising profile', 'forced outage',
+                        'energy surplus notice', 'shortfall notice', 'system status notice', 'outage of a load')[reason]})
+            self.check(['look-up', *who, '--period', str(period)], {**named, 'period': str(period)})
+            self.check(['total', *who[2:], '--period', str(period)], {'service': named['service'], 'period': str(period)})
+
+    def test_capabilities(self):
+        maxima = [f'max-{name}' for name in ('generation', 'combined', 'primary', 'secondary', 'contingency', 'regulation')]
+        labels = ['generation maximum', 'combined maximum', 'primary reserve maximum', 'secondary reserve maximum', 'contingency reserve maximum',
+                  'regulation maximum']
+        for _ in range(100):
+            facility, kind = self.random.randint(0, 63), self.random.choice(('generation', 'load'))
+            words = ['capability', '--facility', str(facility), '--kind', kind]
+            want = {'facility': str(facility), 'kind': f"{1 if kind == 'generation' else 2} {kind}"}
+            for option, label in zip(maxima, labels):
+                value = self.random.randint(0, 99999)
+                words += [f'--{option}', self.amount(value, 1, 'MW')]
+                want[label] = f'{Decimal(value).scaleb(-1):.1f} MW'
+            for name in ('up', 'down'):
+                value = self.random.randint(0, 9999)
+                words += [f'--max-ramp-{name}', self.amount(value, 1, 'MW/min')]
+                want[f'ramp-{name} maximum'] = f'{Decimal(value).scaleb(-1):.1f} MW/min'
+            for name in ('primary', 'secondary', 'contingency'):
+                value = self.random.randint(0, 1000)
+                words += [f'--max-{name}-proportion', self.amount(value, 1, '%')]
+                want[f'{name} proportion maximum'] = f'{Decimal(value).scaleb(-3):.3f}'
+            able = ('energy', 'primary', 'secondary', 'contingency', 'regulation') if kind == 'generation' else ('primary', 'secondary', 'contingency')
+            marks = [name for name in able if self.random.random() < 0.5]
+            words += ['--registered', ','.join(marks)] if marks else []
+            want['registered for'] = ', '.join(marks) or 'nothing'
+            self.check(words, want)
+
+    def test_clocks_outages_and_notices(self):
+        for _ in range(100):
+            minute, count, facility = self.random.randint(0, 10**9), self.random.randint(1, 48), self.random.randint(0, 63)
+            self.check(['clock', '--minute', str(minute)], {'minute': str(minute)})
+            self.check(['outage', '--facility', str(facility), '--minute', str(minute), '--periods', str(count)],
+                       {'facility': str(facility), 'minute': str(minute), 'periods': str(count),
+                        'window': f'periods {minute // 30 + 1} to {minute // 30 + count}'})
+            first, last = sorted(self.random.randint(0, 40_000_000) for _ in range(2))
+            kind, text = self.random.choice(((3, 'energy surplus'), (4, 'shortfall'), (5, 'system status')))
+            self.check(['notice', '--kind', str(kind), '--first', str(first), '--last', str(last)],
+                       {'notice': f'{kind} {text} notice', 'first period': str(first), 'last period': str(last)})
+
+    def test_any_fields_at_all(self):
+        """Words a book refuses come back too, with --anyway."""
+        edge = (0, 1, -1, 2**31 - 1, -2**31, 99999, 100000)
+        for _ in range(150):
+            service, word = self.random.randint(0, 4), lambda: self.random.choice(edge + (self.random.randint(-2**31, 2**31 - 1),))
+            fields = {'facility': self.random.randint(0, 255), 'service': service, 'period': word()}
+            fields['words'] = [word() for _ in range(self.random.randint(0, 20 if service == 0 else 10))]
+            if service == 0:
+                fields.update(ramp_up=word(), ramp_down=word())
+            if 1 <= service <= 3:
+                fields['proportion'] = self.random.randint(0, 65535)
+            for data in (build(3, **fields), build(4, reason=self.random.randint(0, 255), **fields), build(1, a=word()),
+                         build(5, facility=fields['facility'], a=word(), b=word()), build(6, reason=self.random.randint(0, 255), a=word(), b=word()),
+                         build(2, facility=fields['facility'], words=[word() for _ in range(12)] + [self.random.randint(0, 1) for _ in range(5)])):
+                words = command_for(data)
+                self.assertEqual(run(words), (0, data, ''), words)
+
+
+class Answers(Tool):
+    LOOK_UP = '0 2 0 15 20 4000 500 -5000 200' + ' 0' * 16 + ' 700'
+
+    def test_every_refusal(self):
+        for number in range(1, 21):
+            who, means, correct = REFUSALS[number]
+            text = self.explained(f'--answer {number} 0 0')
+            self.assertEqual(text, f'refused with {number}, drawn by {who}: {means}\nto correct: {correct}\nthe book is unchanged\n')
+            self.assertEqual(self.explained(f'--answer {number}' + ' 0' * 25), text)
+        self.assertEqual(sorted(REFUSALS), list(range(1, 21)))
+
+    def test_who_draws_which(self):
+        want = {'the host program': {1, 2, 20}, 'any sender': {3, 4, 5}, 'the clock': {6}, 'the system operator': {7, 8},
+                'the coordinator': set(range(9, 19)) - {10}, 'the coordinator or reader': {10}, 'the reader': {19}}
+        for who, numbers in want.items():
+            self.assertEqual({number for number, (drawn_by, _, _) in REFUSALS.items() if drawn_by == who}, numbers)
+
+    def test_three_numbers(self):
+        for line, text in (
+                ('0 0 0', 'accepted; or, answering a total: no facility has an offer in force'),
+                ('0 1 700', 'answering a look-up: the standing offer is in force, 70.0 MW in all\nanswering a total: 1 facility has an offer in force, 70.0 MW in all'),
+                ('0 2 300', 'answering a look-up: the variation is in force, 30.0 MW in all\nanswering a total: 2 facilities have an offer in force, 30.0 MW in all'),
+                ('0 3 999999', 'answering a total: 3 facilities have an offer in force, 99999.9 MW in all'),
+                ('0 1 700 --call look-up', 'the standing offer is in force, 70.0 MW in all'),
+                ('0 2 0 --call 8', 'the variation is in force, 0.0 MW in all'),
+                ('0 1 300 --call total', '1 facility has an offer in force, 30.0 MW in all'),
+                ('0 0 0 --call total', '0 facilities have an offer in force, 0.0 MW in all'),
+                ('0 0 0 --call standing', 'accepted')):
+            self.assertEqual(self.explained(f'--answer {line}'), text + '\n', line)
+
+    def test_all_words_of_a_look_up(self):
+        self.assertEqual(self.explained(f'--answer {self.LOOK_UP}').splitlines(), [
+            'the variation is in force, 70.0 MW in all', '  ramp up        1.5 MW/min', '  ramp down      2.0 MW/min',
+            '  pair 1         50.0 MW at $40.00/MWh', '  pair 2         20.0 MW at -$50.00/MWh', '  pairs 3 to 10  blank'])
+        reserve = '0 1 625 0 0 100 50' + ' 0' * 18 + ' 50'
+        self.assertEqual(explain_answer(reserve, 8, 2), ['the standing offer is in force, 5.0 MW in all', '  proportion    0.625',
+                                                         '  pair 1        5.0 MW at $1.00/MWh', '  pairs 2 to 5  blank'])
+
+    def test_damaged(self):
+        for line in ('17 1 0', '17 0 5', '0 1 700 --call clock', '0 3 700 --call look-up', '0 65 0 --call total', '0 -1 0',
+                     self.LOOK_UP[:-3] + '701', '0 1 1' + ' 0' * 22 + ' 5 --call total'):
+            self.assertIn('damaged answer', self.explained(f'--answer {line}'), line)
+
+
+class Vectors(Tool):
+    """tests/vectors: NAME.in holds lists (F, S, six limits, count; then each record with its length before it), NAME.out an answer a line."""
+
+    def lists(self, name):
+        data, answers = contents(HERE, 'vectors', name + '.in'), iter(contents(HERE, 'vectors', name + '.out').decode().splitlines())
+        place = 0
+
+        def word():
+            nonlocal place
+            place += 4
+            return int.from_bytes(data[place - 4:place], 'big', signed=True)
+        while place < len(data):
+            facilities, services, *_, count = [word() for _ in range(9)]
+            for _ in range(count):
+                length = word()
+                place += length
+                yield data[place - length:place], facilities, services, next(answers)
+        self.assertIsNone(next(answers, None))
+
+    def program(self, name):
+        data, answers = contents(HERE, 'vectors', name + '.in'), contents(HERE, 'vectors', name + '.out').decode().splitlines()
+        pieces = [data[start:start + 112] for start in range(0, len(data), 112)]
+        self.assertEqual(len(pieces), len(answers))
+        return [(piece, 1, 1, answer) for piece, answer in zip(pieces, answers)]
+
+    def check(self, items):
+        """The record test agrees with the agreed answers, and so does what is said of any book."""
+        seen = set()
+        for place, (data, facilities, services, answer) in enumerate(dict.fromkeys(items)):
+            number = int(answer.split()[0])
+            seen.add(number)
+            tested, _ = record_test(data, facilities, services)
+            self.assertEqual(tested, number if number in (2, 3, 4) else 0, (data.hex(), answer))
+            surely, _ = any_book_refuses(data)
+            self.assertTrue(surely == 0 or 0 < number <= surely, (data.hex(), answer, surely))
+            self.assertIn(f'F {facilities}, S {services}: {tested}', '\n'.join(explain_record(data, facilities, services)))
+            lines = explain_answer(answer, *records.call_and_service(data))
+            self.assertNotIn('damaged', ' '.join(lines), (data.hex(), answer))
+            words = command_for(data)
+            if words and place % 5 == 0:
+                self.assertEqual(b''.join(records.make(options) for options in records.parse_run(words)), data)
+        return seen
+
+    def test_every_byte(self):
+        self.assertLessEqual({0, 2, 3, 4}, self.check(self.lists('every_byte')))
+
+    def test_five_services(self):
+        self.assertEqual(self.check(self.lists('five_services')), set(range(20)) - {1})
+
+    def test_one_service(self):
+        self.assertLessEqual({0, 2, 3, 4, 17}, self.check(self.lists('one_service')))
+
+    def test_program(self):
+        self.check(self.program('program_31'))
+        self.check(self.program('program_34'))
+
+
+class RefusalsPage(unittest.TestCase):
+    """docs/REFUSALS.md: a row for each number and reason, and its table of gate closure worked out again."""
+
+    def setUp(self):
+        self.rows = [[cell.strip() for cell in line.strip('|').split('|')] for line in contents(ROOT, 'docs', 'REFUSALS.md').decode().splitlines()
+                     if line.startswith('| ')]
+
+    def test_a_row_for_each(self):
+        numbers = [int(row[0]) for row in self.rows if len(row) == 5 and row[0].isdigit()]
+        self.assertEqual(numbers, list(range(1, 21)))
+        reasons = [int(row[0].split()[0]) for row in self.rows if len(row) == 4 and row[0][0].isdigit()]
+        self.assertEqual(reasons, list(range(1, 7)))
+
+    def test_who_draws_which(self):
+        for row in self.rows:
+            if len(row) == 5 and row[0].isdigit():
+                self.assertEqual('the ' + row[1].replace(', ', ' or ') if row[1] != 'any sender' else row[1], REFUSALS[int(row[0])][0])
+
+    def test_gate_closure(self):
+        days = ('Mon', 'Tue', 'Wed', 'Thu', 'Fri', 'Sat', 'Sun')
+
+        def at(minute):
+            return f'{days[minute // 1440 % 7]} {minute % 1440 // 60:02d}:{minute % 60:02d}'
+        rows = [row for row in self.rows if len(row) == 7 and row[0].isdigit()]
+        self.assertGreaterEqual(len(rows), 5)
+        for row in rows:
+            period = int(row[0])
+            start = 30 * period
+            taken = next(minute for minute in range(0, 100 * 1440, 1440) if period < 48 * (minute // 1440 + 7))
+            opened = [minute for minute in range(start) if start - minute >= 65]
+            last = f'{opened[-1]} ({at(opened[-1])})' if opened else 'never open'
+            closes = opened[-1] + 1 if opened else 0
+            self.assertEqual(row[1:], [f'day {start // 1440}, {at(start)}', str(start), str(taken), last, f'{closes} ({at(closes)})', str(start)])
+
+
+if __name__ == '__main__':
+    unittest.main()

@@ -1,0 +1,177 @@
+"""Amounts and times between a person's words and the record's whole numbers (document 01, "Units and time").
+Every amount is exact: there are no floating-point numbers, and what does not come out whole is refused."""
+import argparse
+import re
+
+WEEKDAYS = ('Monday', 'Tuesday', 'Wednesday', 'Thursday', 'Friday', 'Saturday', 'Sunday')
+
+
+class BadArgument(argparse.ArgumentTypeError):
+    """One line for the person who gave the argument."""
+
+
+# ---- reading
+
+def whole(text):
+    if not re.fullmatch(r'-?[0-9]{1,20}', text):
+        raise BadArgument(f"'{text}' is not a whole number")
+    return int(text)
+
+
+def within(value, lowest, highest, what):
+    if not lowest <= value <= highest:
+        raise BadArgument(f'{what} {value} is outside {lowest} to {highest}')
+    return value
+
+
+def word(text):
+    return within(whole(text), -2**31, 2**31 - 1, 'a signed 32-bit word:')
+
+
+def whole_parts(text, places, message):
+    """A decimal number with at most so many places, counted in units of its last place."""
+    match = re.fullmatch(r'(-?)([0-9]{1,12})(?:\.([0-9]+))?', text)
+    if not match:
+        raise BadArgument(f"'{text}' is not a decimal number")
+    sign, units, decimals = match.group(1), match.group(2), match.group(3) or ''
+    if len(decimals) > places:
+        raise BadArgument(f"'{text}': {message}")
+    return word(sign + units + decimals.ljust(places, '0'))
+
+
+def dollars(text):
+    return whole_parts(text, 2, 'a price has at most two decimals, whole cents')
+
+
+def megawatts(text):
+    return whole_parts(text, 1, 'a quantity has at most one decimal, whole tenths of a MW')
+
+
+def with_unit(text, units, parts, plain):
+    """A plain whole number is in the record's unit; with a unit written after it, in that."""
+    for unit in units:
+        if text.endswith(unit):
+            return parts(text[:-len(unit)])
+    if re.fullmatch(r'-?[0-9]+\.[0-9]*', text):
+        raise BadArgument(f"'{text}': write {plain}, or the unit: {text}{units[0]}")
+    return word(text)
+
+
+def quantity(text):
+    return with_unit(text, ('MW',), megawatts, 'whole tenths of a MW')
+
+
+def ramp(text):
+    return with_unit(text, ('MW/min', 'MW'), megawatts, 'whole tenths of a MW per minute')
+
+
+def percent(text):
+    return whole_parts(text, 1, 'a proportion has at most one decimal of a percent, whole thousandths')
+
+
+def proportion(text):
+    return with_unit(text, ('%',), percent, 'whole thousandths')
+
+
+def pair_list(text, read_quantity, read_price):
+    """QUANTITY@PRICE, parted by commas, as (price, quantity): the record's order."""
+    pairs = []
+    for item in text.split(','):
+        if item.count('@') != 1:
+            raise BadArgument(f"'{item}' is not QUANTITY@PRICE")
+        left, right = item.split('@')
+        pairs.append((read_price(right), read_quantity(left)))
+    return pairs
+
+
+def pairs(text):
+    return pair_list(text, word, word)
+
+
+def mw_pairs(text):
+    return pair_list(text, megawatts, dollars)
+
+
+def time_of_day(text, whole_text):
+    match = re.fullmatch(r'([0-9]{2}):([0-9]{2})', text)
+    if not match or int(match.group(1)) > 23 or int(match.group(2)) > 59:
+        raise BadArgument(f"'{whole_text}': '{text}' is not a time of day, 00:00 to 23:59")
+    return 60 * int(match.group(1)) + int(match.group(2))
+
+
+def minute(text):
+    """A whole minute from the start of day 0, or DAY/HH:MM."""
+    if '/' not in text:
+        return word(text)
+    day, time = text.split('/', 1)
+    return within(1440 * within(whole(day), 0, 2**31 - 1, 'day') + time_of_day(time, text), 0, 2**31 - 1, 'minute')
+
+
+def half_hour(minutes, text):
+    if minutes % 30:
+        raise BadArgument(f"'{text}': a period starts at :00 or :30")
+    return minutes // 30
+
+
+def period(text):
+    """A period's number, or the DAY/HH:MM at which it starts."""
+    return half_hour(minute(text), text) if '/' in text else word(text)
+
+
+def slot(text):
+    """A slot's number, or the weekday and time at which it starts: Mon/02:00."""
+    if '/' not in text:
+        return word(text)
+    day, time = text.split('/', 1)
+    days = [name[:3].lower() for name in WEEKDAYS]
+    if day.lower() not in days:
+        raise BadArgument(f"'{text}': '{day}' is not one of Mon, Tue, Wed, Thu, Fri, Sat, Sun")
+    return 48 * days.index(day.lower()) + half_hour(time_of_day(time, text), text)
+
+
+# ---- showing
+
+def show_parts(value, places):
+    units, decimals = divmod(abs(value), 10**places)
+    return f"{'-' if value < 0 else ''}{units}.{decimals:0{places}d}"
+
+
+def show_mw(tenths):
+    return f'{show_parts(tenths, 1)} MW'
+
+
+def show_ramp(tenths):
+    return f'{show_parts(tenths, 1)} MW/min'
+
+
+def show_price(cents):
+    return f"{'-' if cents < 0 else ''}${show_parts(abs(cents), 2)}/MWh"
+
+
+def show_proportion(thousandths):
+    return show_parts(thousandths, 3)
+
+
+def show_time(minutes):
+    return f'{minutes // 60:02d}:{minutes % 60:02d}'
+
+
+def show_minute(value):
+    if value < 0:
+        return f'{value} (before day 0)'
+    day = value // 1440
+    return f'{value} (day {day}, {WEEKDAYS[day % 7]}, {show_time(value % 1440)})'
+
+
+def show_period(value):
+    if value < 0:
+        return f'{value} (before day 0)'
+    day, start = value // 48, 30 * (value % 48)
+    return f'{value} (day {day}, {WEEKDAYS[day % 7]}, {show_time(start)} to {show_time(start + 30)}; slot {value % 336})'
+
+
+def show_slot(value):
+    if not 0 <= value <= 335:
+        return f'{value} (slots are 0 to 335)'
+    start = 30 * (value % 48)
+    return f'{value} ({WEEKDAYS[value // 48]}, {show_time(start)} to {show_time(start + 30)})'

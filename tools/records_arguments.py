@@ -1,0 +1,194 @@
+"""The words of tools/records.py's command line: commands, options and their --help.
+Errors are one line; an option given twice, or an abbreviation, is one."""
+import argparse
+from functools import lru_cache
+
+from records_amounts import BadArgument, minute, mw_pairs, pairs, period, proportion, quantity, ramp, slot, whole, within, word
+from records_explain import CAPABILITY
+from records_layout import CALLS, KINDS, NOTICES, REASONS, SERVICES
+
+TOP = '''\
+Makes and explains records of the half-hour offer book. A record is 112 bytes, so it goes to a
+file or a pipe, or with --hex to the screen. Nothing is filed: give the records to the program.
+
+{commands}
+
+Each has its own --help. For example:
+  records.py capability --facility 0 --kind generation --max-generation 130.0MW \\
+      --max-combined 80.0MW --registered energy --append day.records
+  records.py standing --facility 0 --service energy --slot Mon/02:00 \\
+      --mw 50.0@40.00,20.0@50.00 --append day.records
+  records.py variation --facility 0 --service energy --period 4 --pairs 300@4000 --hex
+  records.py clock --minute 1/00:00 then total --service energy --period 340 > two.records
+  records.py explain day.records
+  records.py explain --answer 17 0 0
+
+Amounts are exact. A plain whole number is in the record's unit: tenths of a MW, tenths of a MW
+per minute, thousandths. With its unit written it is read in that: 130.0MW, 1.5MW/min, 62.5%.
+Pairs are tenths@cents after --pairs, MW@dollars after --mw.
+Minutes count from the start of day 0, a Monday, or are DAY/HH:MM. Period P starts at minute
+30 P, or is the DAY/HH:MM of its start. Slots are 0 to 335, or Mon/02:00.
+'then' joins several calls into one run of records.
+
+A record that any book refuses, whatever it holds, is not made unless --anyway is given.
+Exit status: 0, or 2 with one line on standard error. docs/REFUSALS.md explains the numbers.'''
+
+
+class Parser(argparse.ArgumentParser):
+    def __init__(self, **settings):
+        super().__init__(allow_abbrev=False, formatter_class=argparse.RawDescriptionHelpFormatter, **settings)
+
+    def error(self, message):
+        raise BadArgument(f'{self.prog}: {message} (--help tells more)')
+
+
+class Once(argparse.Action):
+    """An option given twice is a slip, not a correction."""
+
+    def __call__(self, parser, options, value, option=None):
+        if getattr(options, self.dest, self.default) is not self.default:
+            parser.error(f'{option} is given twice')
+        setattr(options, self.dest, value)
+
+
+# ---- words with names
+
+def named(names, what):
+    """A number of the table, or its name."""
+    def of(text):
+        for number, name in names.items():
+            if text == name:
+                return number
+        if text.lstrip('-').isdigit():
+            return word(text)
+        raise BadArgument(f"'{text}' is no {what}: {', '.join(names.values())}, or a number")
+    return of
+
+
+def service(text):
+    return within(named(dict(enumerate(SERVICES)), 'service')(text), 0, 4, 'service')
+
+
+def facility(text):
+    return within(whole(text), 0, 255, 'facility')
+
+
+def reason(text):
+    return within(named(dict(enumerate(REASONS)), 'reason')(text), 0, 255, 'reason')
+
+
+def notice(text):
+    return within(named(NOTICES, 'notice')(text), 0, 255, 'notice')
+
+
+def services(text):
+    marks = [service(part) for part in text.split(',')]
+    if len(set(marks)) < len(marks):
+        raise BadArgument(f"'{text}' names a service twice")
+    return marks
+
+
+# ---- the arguments of each call
+
+def add_output_options(parser):
+    group = parser.add_argument_group('where the records go (standard output if nothing is said)')
+    group.add_argument('--hex', action='store_true', help='write each record as a line of 224 hex digits')
+    where = group.add_mutually_exclusive_group()
+    where.add_argument('--out', metavar='FILE', action=Once, help='write to FILE, replacing it')
+    where.add_argument('--append', metavar='FILE', action=Once, help='add to the end of FILE')
+    where.add_argument('--terminal', action='store_true', help='write bytes even to a terminal')
+
+
+def add_offer_options(parser):
+    parser.add_argument('--proportion', type=proportion, action=Once, metavar='N', help='reserve proportion, thousandths or with %%; generation must give one')
+    parser.add_argument('--ramp-up', type=ramp, action=Once, metavar='N', help='energy ramp-up rate, tenths of a MW per minute or with MW/min; 0 if left out')
+    parser.add_argument('--ramp-down', type=ramp, action=Once, metavar='N', help='energy ramp-down rate, likewise')
+    either = parser.add_mutually_exclusive_group(required=True)
+    either.add_argument('--pairs', type=pairs, action=Once, metavar='T@C,..', help='pairs, tenths of a MW @ cents per MWh: 500@4000,200@5000')
+    either.add_argument('--mw', type=mw_pairs, action=Once, metavar='MW@$,..', help='pairs, MW @ dollars per MWh: 50.0@40.00,20.0@50.00')
+    parser.epilog = 'Ten pairs at most for energy, five for reserve and regulation; the rest are blank. 0@0 is a blank pair, and alone an offer of nothing.'
+
+
+OPTIONS = {
+    '--facility': dict(type=facility, metavar='N', help='facility, from 0'),
+    '--service': dict(type=service, metavar='SERVICE', help=', '.join(SERVICES) + ', or 0 to 4'),
+    '--period': dict(type=period, metavar='P', help='period P, or DAY/HH:MM of its start'),
+    '--slot': dict(type=slot, metavar='SLOT', help='slot 0 to 335, or weekday and time: Mon/02:00'),
+    '--minute': dict(type=minute, metavar='M', help='minute from the start of day 0, or DAY/HH:MM'),
+    '--periods': dict(type=word, metavar='N', help='count of periods after the one that holds the minute: 1 to 3, load 1 to 48'),
+    '--first': dict(type=period, metavar='P', help='first period of the notice'),
+    '--last': dict(type=period, metavar='P', help='last period of the notice'),
+}
+
+# command: what it is, its options
+COMMANDS = {
+    'clock': ('call 1: sets the clock', ['--minute']),
+    'capability': ('call 2: files what a facility can do', ['--facility']),
+    'standing': ('call 3: files a standing offer for a slot of every week', ['--facility', '--service', '--slot']),
+    'variation': ('call 4: files a variation for one period', ['--facility', '--service', '--period']),
+    'outage': ('call 5: reports a forced outage', ['--facility', '--minute', '--periods']),
+    'notice': ('call 6: files an advisory notice', ['--first', '--last']),
+    'withdrawal': ('call 7: withdraws the system status notice', []),
+    'look-up': ('call 8: asks which offer is in force', ['--facility', '--service', '--period']),
+    'total': ('call 9: asks for the sum of the offers in force', ['--service', '--period']),
+}
+
+
+def add_call_options(name, parser):
+    for option in COMMANDS[name][1]:
+        parser.add_argument(option, action=Once, required=True, **OPTIONS[option])
+    if name == 'capability':
+        parser.add_argument('--kind', type=named(KINDS, 'kind'), action=Once, required=True, metavar='KIND', help='generation or load')
+        for option, label, _ in CAPABILITY:
+            parser.add_argument(f'--{option}', type=amount_of(option), action=Once, metavar='N', help=f'{label}; 0 if left out')
+        parser.add_argument('--registered', type=services, action=Once, metavar='SERVICE,..', help='services it is registered for')
+    if name == 'variation':
+        parser.add_argument('--reason', type=reason, action=Once, metavar='R', help=', '.join(REASONS) + ', or 0 to 6')
+    if name in ('notice', 'withdrawal'):
+        parser.add_argument('--kind', type=notice, action=Once, required=name == 'notice', metavar='KIND',
+                            help='surplus, shortfall or status, or 3 to 5' + ('' if name == 'notice' else '; status if left out, and no other can be withdrawn'))
+    if name in ('standing', 'variation'):
+        add_offer_options(parser)
+    parser.add_argument('--anyway', action='store_true', help='make a record that any book refuses')
+    add_output_options(parser)
+
+
+def amount_of(option):
+    return proportion if option.endswith('proportion') else ramp if 'ramp' in option else quantity
+
+
+def add_explain_options(parser):
+    parser.add_argument('file', nargs='?', metavar='FILE', help='records, one after another; - or nothing for standard input')
+    parser.add_argument('--whole', action='store_true', help='take FILE as one record, whatever its length')
+    parser.add_argument('--record', metavar='HEX', action=Once, help='one record in hex digits')
+    parser.add_argument('--answer', nargs='+', metavar='N', action=Once, help='an answer: number, word 0, sum; or number, 24 words, sum')
+    parser.add_argument('--answers', metavar='FILE', action=Once, help='answers, a line for each record of FILE')
+    parser.add_argument('--call', type=named(CALLS, 'call'), action=Once, metavar='CALL', help='the call that --answer answers')
+    parser.add_argument('--facilities', type=word, default=64, metavar='F', help="the book's F for the record test, 64 if left out")
+    parser.add_argument('--services', type=word, default=5, metavar='S', help="the book's S for the record test, 5 if left out")
+
+
+@lru_cache(maxsize=1)
+def parser_of_all():
+    others = {'sample': "writes document 01's worked run, nine records", 'explain': 'says what records and answers mean'}
+    texts = {name: text for name, (text, _) in COMMANDS.items()} | others
+    top = Parser(prog='records.py', description=TOP.format(commands='\n'.join(f'  {name:<12}{text}' for name, text in texts.items())))
+    commands = top.add_subparsers(dest='command', required=True, metavar='COMMAND', parser_class=Parser, help='one of those above')
+    parsers = {name: commands.add_parser(name, description=text) for name, text in texts.items()}
+    for name in COMMANDS:
+        add_call_options(name, parsers[name])
+    add_output_options(parsers['sample'])
+    add_explain_options(parsers['explain'])
+    return top
+
+
+def parse_run(words):
+    """One set of options for each call of a run joined by 'then'."""
+    runs = [[]]
+    for text in words:
+        if text == 'then':
+            runs.append([])
+        else:
+            runs[-1].append(text)
+    parser = parser_of_all()
+    return [parser.parse_args(run) for run in runs]

@@ -1,0 +1,284 @@
+"""What a record or an answer says, in words: fields, stray bytes, the record test; refusals, offers in force, totals.
+The refusals' words are those of docs/REFUSALS.md, which has the market's clauses beside them."""
+from itertools import groupby
+
+from records_amounts import (BadArgument, show_minute, show_mw, show_period, show_price, show_proportion, show_ramp, show_slot, whole, within)
+from records_layout import (CALLS, KINDS, LENGTH, NOTICES, REASONS, SERVICES, SERVICE_TEXTS, any_book_refuses, field_at, form_faults, offer_fields,
+                            pairs_of, read, record_test, stray_bytes)
+
+CALL_TEXTS = {1: 'clock', 2: 'capability', 3: 'standing offer', 4: 'variation', 5: 'outage', 6: 'notice', 7: 'withdrawal', 8: 'look-up', 9: 'total'}
+REASON_TEXTS = ('no reason', 'synchronising profile', 'forced outage', 'energy surplus notice', 'shortfall notice', 'system status notice', 'outage of a load')
+CAPABILITY = (
+    ('max-generation', 'generation maximum', show_mw), ('max-combined', 'combined maximum', show_mw),
+    ('max-primary', 'primary reserve maximum', show_mw), ('max-secondary', 'secondary reserve maximum', show_mw),
+    ('max-contingency', 'contingency reserve maximum', show_mw), ('max-regulation', 'regulation maximum', show_mw),
+    ('max-ramp-up', 'ramp-up maximum', show_ramp), ('max-ramp-down', 'ramp-down maximum', show_ramp),
+    ('max-primary-proportion', 'primary proportion maximum', show_proportion),
+    ('max-secondary-proportion', 'secondary proportion maximum', show_proportion),
+    ('max-contingency-proportion', 'contingency proportion maximum', show_proportion))
+
+# number: who draws it, what it means, what to correct
+REFUSALS = {
+    1: ('the host program', "the book's words are not a usable book: too few, wrong mark, version, F or S, or a damaged clock",
+        'nothing in the record; the host must lend the book as the last call left it'),
+    2: ('the host program', 'not a record: not 112 bytes, or mark, version or call wrong', 'the sending program, or the line'),
+    3: ('any sender', 'the book has no such facility or service', 'the facility (below F) or the service (below S)'),
+    4: ('any sender', 'a byte that the call does not use is not zero', 'clear it: explain the record to see which'),
+    5: ('any sender', 'the facility has no capability in the book', 'the facility; or file its capability first'),
+    6: ('the clock', 'the minute is before the clock, or above 1,000,000,000', 'the minute: the clock never goes back'),
+    7: ('the system operator', 'outage, notice or withdrawal out of bounds',
+        'outage: minute 0 to the clock, 1 to 3 periods (load 1 to 48); notice: 3, 4 or 5, 0 <= first <= last <= 40,000,000; withdrawal: 5 only'),
+    8: ('the system operator', 'capability out of bounds',
+        'kind 1 or 2 and as held before; maxima to 9999.9 MW, ramps to 999.9 MW/min, proportions to 1.000; no energy or regulation for a load'),
+    9: ('the coordinator', 'the facility is not registered for the service', 'the service; or have the capability filed with that mark'),
+    10: ('the coordinator or reader', 'slot outside 0 to 335, or the period has begun or is past the horizon',
+         'a period not yet begun, up to the end of the sixth day after the clock\'s'),
+    11: ('the coordinator', 'a reason above 6, a quantity outside 0.0 to 9999.9 MW, or a price outside its limits',
+         'that value; reserve and regulation prices start at 0.00'),
+    12: ('the coordinator', 'a pair of 0.0 MW has a price', 'make the price 0.00, or give a quantity'),
+    13: ('the coordinator', 'prices of non-blank pairs do not strictly rise', 'order the pairs by price; join pairs of one price'),
+    14: ('the coordinator', 'an energy ramp rate is below 0.0 or above its maximum', 'the ramp rate, to the capability'),
+    15: ('the coordinator', "a generation facility's reserve proportion is 0 or above its maximum", 'the proportion: 0.001 to the capability'),
+    16: ('the coordinator', 'the total is above a maximum: generation or combined (energy), or the service\'s own', 'the quantities, to the capability'),
+    17: ('the coordinator', 'gate closure: inside 65 minutes, and no reason given holds, or a price already offered changes',
+         'a variation with a reason that holds and unchanged prices; a held standing offer after its next period has begun'),
+    18: ('the coordinator', 'the standing offer is the one already held', 'nothing: it is held'),
+    19: ('the reader', 'no offer is in force', 'nothing: no standing offer or variation is held for it'),
+    20: ('the host program', 'opening or record test: F, S, the words lent or the price limits are wrong',
+         'F 1 to 64, S 1 or 5, enough words, limits within +-10,000,000 with lowest <= 0 <= highest'),
+}
+
+
+# ---- records
+
+def with_name(value, names):
+    return f'{value} {names[value]}' if 0 <= value < len(names) else f'{value} (no such)'
+
+
+def pair_rows(words, count):
+    """Pairs one by one, runs of blanks together; past the service's count only those that hold something."""
+    rows = []
+    for empty, run in groupby(enumerate(pairs_of(words), 1), lambda item: item[1] == (0, 0)):
+        run = list(run)
+        first, last = run[0][0], min(run[-1][0], count)
+        if empty and first <= last:
+            rows.append((f'pair {first}' if first == last else f'pairs {first} to {last}', 'blank'))
+        if not empty:
+            rows += [(f'pair {place}', f"{show_mw(quantity)} at {show_price(price)}{'' if quantity else ' (blank, with a price)'}")
+                     for place, (price, quantity) in run]
+    return rows
+
+
+def offer_rows(service, proportion, ramp_up, ramp_down, words):
+    """A service's own fields, and others that hold something; all pairs where the service is not known."""
+    fields, count = offer_fields(service) if service is not None else ((), 10)
+    rows = []
+    if 'proportion' in fields or proportion:
+        rows.append(('proportion', show_proportion(proportion)))
+    if 'ramp up' in fields or ramp_up or ramp_down:
+        rows += [('ramp up', show_ramp(ramp_up)), ('ramp down', show_ramp(ramp_down))]
+    return rows + pair_rows(words, count) + [('total', show_mw(sum(words[1::2])))]
+
+
+def open_row(period):
+    """'A variation is open when 30 P - now is 65 or more.'"""
+    last = 30 * period - 65
+    text = f'up to minute {show_minute(last)}; after it with a reason only' if last >= 0 else 'at no minute; with a reason only'
+    return 'gate open', text
+
+
+def capability_rows(words):
+    marks = [f'{SERVICES[s]}{"" if mark == 1 else f" (mark {mark})"}' for s, mark in enumerate(words[12:17]) if mark]
+    rows = [('kind', f'{words[0]} {KINDS.get(words[0], "(no such)")}')]
+    rows += [(label, show(value)) for (_, label, show), value in zip(CAPABILITY, words[1:12])]
+    return rows + [('registered for', ', '.join(marks) or 'nothing')]
+
+
+def outage_window(minute, count):
+    if not (0 <= minute and 1 <= count <= 48):
+        return 'none'
+    return f'periods {minute // 30 + 1} to {minute // 30 + count}'
+
+
+def field_rows(r):
+    """Each field that the record's call uses."""
+    rows = []
+    if r.call in (2, 3, 4, 5, 8):
+        rows.append(('facility', str(r.facility)))
+    if r.call in (3, 4, 8, 9):
+        rows.append(('service', with_name(r.service, SERVICE_TEXTS)))
+    if r.call == 3:
+        rows.append(('slot', show_slot(r.period)))
+    if r.call in (4, 8, 9):
+        rows.append(('period', show_period(r.period)))
+    if r.call == 4:
+        rows += [('reason', with_name(r.reason, REASON_TEXTS)), open_row(r.period)]
+    if r.call in (3, 4) and r.service < 5:
+        rows += offer_rows(r.service, *used_offer(r))
+    if r.call == 1:
+        rows.append(('minute', show_minute(r.a)))
+    if r.call == 2:
+        rows += capability_rows(r.words)
+    if r.call == 5:
+        rows += [('minute', show_minute(r.a)), ('periods', str(r.b)), ('window', outage_window(r.a, r.b))]
+    if r.call in (6, 7):
+        rows.append(('notice', f'{r.reason} {REASON_TEXTS[r.reason] if r.reason in NOTICES else "(no such)"}'))
+    if r.call == 6:
+        rows += [('first period', show_period(r.a)), ('last period', show_period(r.b))]
+    return rows
+
+
+def used_offer(r):
+    """What the service uses of an offer's fields; the rest is stray, and listed as such."""
+    fields, count = offer_fields(r.service)
+    return (r.proportion if 'proportion' in fields else 0, r.ramp_up if 'ramp up' in fields else 0,
+            r.ramp_down if 'ramp down' in fields else 0, r.words[:2 * count])
+
+
+def aligned(rows):
+    width = max((len(label) for label, _ in rows), default=0) + 2
+    return [f'  {label:<{width}}{text}' for label, text in rows]
+
+
+def number_text(number, faults):
+    return f'{number}, passes' if number == 0 else f'{number}: ' + '; '.join(faults)
+
+
+def stray_text(data):
+    strays = stray_bytes(data)
+    return '; '.join(f'byte {place} ({field_at(place)}) is {data[place]}' for place in strays) or 'none'
+
+
+def explain_record(data, facilities, services):
+    """Lines for one record, right or damaged."""
+    number, faults = record_test(data, facilities, services)
+    form = form_faults(data)
+    call = data[5] if len(data) > 5 else None
+    lines = [f'{CALL_TEXTS[call]} (call {call})' if call in CALLS else 'no record of the nine calls']
+    rows = []
+    if len(data) == LENGTH and call in CALLS:
+        rows = field_rows(read(data))
+        rows.append(('stray bytes', stray_text(data) if call not in (3, 4) or data[7] < 5 else 'not settled: no such service'))
+    rows.append(('record test', f'F {facilities}, S {services}: {number_text(number, faults)}'))
+    surely, why = any_book_refuses(data) if not form else (0, '')
+    if number == 0 and surely:
+        rows.append(('any book', f'refuses it with {surely} or a lower number: {why}'))
+    words = command_for(data)
+    if words:
+        rows.append(('made by', ' '.join(words)))
+    return lines + aligned(rows)
+
+
+# ---- the command that makes a record
+
+def pairs_words(words):
+    pairs = pairs_of(words)
+    while len(pairs) > 1 and pairs[-1] == (0, 0):
+        pairs.pop()
+    text = ','.join(f'{quantity}@{price}' for price, quantity in pairs)
+    return [f'--pairs={text}'] if text.startswith('-') else ['--pairs', text]
+
+
+def offer_words(r):
+    words = []
+    for option, value in (('--proportion', r.proportion), ('--ramp-up', r.ramp_up), ('--ramp-down', r.ramp_down)):
+        words += [option, str(value)] if value else []
+    return words + pairs_words(r.words)
+
+
+def capability_words(w):
+    words = ['--kind', KINDS.get(w[0], str(w[0]))]
+    for (option, _, _), value in zip(CAPABILITY, w[1:12]):
+        words += [f'--{option}', str(value)] if value else []
+    marks = [SERVICES[s] for s in range(5) if w[12 + s]]
+    return words + (['--registered', ','.join(marks)] if marks else [])
+
+
+def call_words(r):
+    facility, service, period = ['--facility', str(r.facility)], ['--service', SERVICES[r.service % 5]], ['--period', str(r.period)]
+    kind = ['--kind', NOTICES.get(r.reason, str(r.reason))]
+    reason = ['--reason', REASONS[r.reason] if r.reason <= 6 else str(r.reason)] if r.reason else []
+    return {
+        1: lambda: ['--minute', str(r.a)], 2: lambda: facility + capability_words(r.words),
+        3: lambda: facility + service + ['--slot', str(r.period)] + offer_words(r), 4: lambda: facility + service + period + reason + offer_words(r),
+        5: lambda: facility + ['--minute', str(r.a), '--periods', str(r.b)], 6: lambda: kind + ['--first', str(r.a), '--last', str(r.b)],
+        7: lambda: kind, 8: lambda: facility + service + period, 9: lambda: service + period,
+    }[r.call]()
+
+
+def command_for(data):
+    """The words that make these bytes again, or none: no command leaves stray bytes, a wrong mark or another service than 0 to 4."""
+    if form_faults(data):
+        return None
+    r = read(data)
+    if (r.call in (3, 4, 8, 9) and r.service > 4) or stray_bytes(data) or (r.call == 2 and any(mark not in (0, 1) for mark in r.words[12:17])):
+        return None
+    return [CALLS[r.call]] + call_words(r) + (['--anyway'] if any_book_refuses(data)[0] else [])
+
+
+# ---- answers
+
+def read_answer(text):
+    """Number, words and sum of 'number word0 sum', or of number, 24 words and sum."""
+    numbers = [whole(part) for part in text.split()]
+    if len(numbers) not in (3, 26):
+        raise BadArgument(f'an answer is 3 numbers (number, word 0, sum) or 26 (number, 24 words, sum), not {len(numbers)}')
+    within(numbers[0], 0, 20, 'number')
+    for value in numbers[1:-1]:
+        within(value, -2**31, 2**31 - 1, 'word')
+    within(numbers[-1], -2**63, 2**63 - 1, 'sum')
+    return numbers[0], numbers[1:-1], numbers[-1]
+
+
+def refusal_lines(number, words, total):
+    who, means, correct = REFUSALS[number]
+    lines = [f'refused with {number}, drawn by {who}: {means}', f'to correct: {correct}', 'the book is unchanged']
+    if any(words) or total:
+        lines.append('damaged answer: beside a refusal all words and the sum are zero')
+    return lines
+
+
+def look_up_lines(words, total, service):
+    name = {1: 'standing offer', 2: 'variation'}.get(words[0])
+    if name is None:
+        return [f'damaged answer: word 0 of a look-up is 1 or 2, not {words[0]}']
+    lines = [f'the {name} is in force, {show_mw(total)} in all']
+    if len(words) == 24:
+        lines += aligned(offer_rows(service, words[1], words[2], words[3], words[4:])[:-1])
+        if sum(words[5::2]) != total:
+            lines.append(f'damaged answer: the quantities add up to {show_mw(sum(words[5::2]))}')
+    return lines
+
+
+def total_lines(words, total):
+    if not 0 <= words[0] <= 64 or any(words[1:]):
+        return ['damaged answer: a total counts 0 to 64 facilities in word 0, its other words are zero']
+    facilities = '1 facility has' if words[0] == 1 else f'{words[0]} facilities have'
+    return [f'{facilities} an offer in force, {show_mw(total)} in all']
+
+
+def accepted_lines(words, total):
+    if any(words) or total:
+        return ['damaged answer: beside this call all words and the sum are zero']
+    return ['accepted']
+
+
+def explain_answer(text, call=None, service=None):
+    """Lines for one answer; without its call, each reading that is possible."""
+    number, words, total = read_answer(text)
+    if number:
+        return refusal_lines(number, words, total)
+    if call == 8:
+        return look_up_lines(words, total, service)
+    if call == 9:
+        return total_lines(words, total)
+    if call is not None:
+        return accepted_lines(words, total)
+    if not any(words) and total == 0:
+        return ['accepted; or, answering a total: no facility has an offer in force']
+    if any(words[1:]):
+        return look_up_lines(words, total, service)
+    lines = ['answering a total: ' + line for line in total_lines(words, total)]
+    if words[0] in (1, 2):
+        lines = ['answering a look-up: ' + line for line in look_up_lines(words[:1], total, service)] + lines
+    return lines

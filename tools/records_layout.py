@@ -1,0 +1,198 @@
+"""The record's 112 bytes, which of them each call uses, and the record test: refusals 2, 3 and 4 (document 01, "The record", "Parts").
+Beside these, the refusals that can be told from a record alone, whatever the book holds."""
+import struct
+from collections import namedtuple
+from functools import lru_cache
+
+LENGTH = 112
+# "Bytes 0-2 SOB; 3-4 version 1; 5 call; 6 facility; 7 service; 8-11 period word; 12 reason; 13 zero; 14-15 proportion;
+# 16-19 ramp up; 20-23 ramp down; 24-27 A; 28-31 B; 32-111 words W0 to W19", most significant byte first.
+FORM = struct.Struct('>3sHBBBiBBHiiii20i')
+MARK, VERSION = b'SOB', 1
+
+CALLS = {1: 'clock', 2: 'capability', 3: 'standing', 4: 'variation', 5: 'outage', 6: 'notice', 7: 'withdrawal', 8: 'look-up', 9: 'total'}
+SERVICES = ('energy', 'primary', 'secondary', 'contingency', 'regulation')
+SERVICE_TEXTS = ('energy', 'primary reserve', 'secondary reserve', 'contingency reserve', 'regulation')
+KINDS = {1: 'generation', 2: 'load'}
+REASONS = ('none', 'synchronisation', 'outage', 'surplus', 'shortfall', 'status', 'load-outage')
+NOTICES = {3: 'surplus', 4: 'shortfall', 5: 'status'}
+
+BYTES = {
+    'facility': range(6, 7), 'service': range(7, 8), 'period word': range(8, 12), 'reason': range(12, 13), 'byte 13': range(13, 14),
+    'proportion': range(14, 16), 'ramp up': range(16, 20), 'ramp down': range(20, 24), 'A': range(24, 28), 'B': range(28, 32),
+}
+
+Record = namedtuple('Record', 'call facility service period reason proportion ramp_up ramp_down a b words')
+
+
+def build(call, facility=0, service=0, period=0, reason=0, proportion=0, ramp_up=0, ramp_down=0, a=0, b=0, words=()):
+    words = list(words) + [0] * (20 - len(words))
+    return FORM.pack(MARK, VERSION, call, facility, service, period, reason, 0, proportion, ramp_up, ramp_down, a, b, *words)
+
+
+def read(data):
+    """The fields of 112 bytes, right or wrong."""
+    _, _, call, facility, service, period, reason, _, proportion, up, down, a, b, *words = FORM.unpack(data)
+    return Record(call, facility, service, period, reason, proportion, up, down, a, b, words)
+
+
+def pairs_of(words):
+    return list(zip(words[0::2], words[1::2]))
+
+
+# ---- "The nine calls and what they use"
+
+USES = {
+    1: ('A',), 2: ('facility',), 3: ('facility', 'service', 'period word'), 4: ('facility', 'service', 'period word', 'reason'),
+    5: ('facility', 'A', 'B'), 6: ('reason', 'A', 'B'), 7: ('reason',), 8: ('facility', 'service', 'period word'), 9: ('service', 'period word'),
+}
+
+
+def offer_fields(service):
+    """'An offer for service 0 uses both ramps and ten pairs; for 1 to 3 the proportion and five pairs; for 4 five pairs.'"""
+    if service == 0:
+        return ('ramp up', 'ramp down'), 10
+    return (('proportion',) if service <= 3 else ()), 5
+
+
+@lru_cache(maxsize=None)
+def used_bytes(call, service):
+    fields, words = USES[call], 0
+    if call == 2:
+        words = 17
+    if call in (3, 4):
+        more, pairs = offer_fields(service)
+        fields, words = fields + more, 2 * pairs
+    return frozenset(place for field in fields for place in BYTES[field]) | frozenset(range(32, 32 + 4 * words))
+
+
+def field_at(place):
+    for name, places in BYTES.items():
+        if place in places:
+            return name
+    return f'W{(place - 32) // 4}'
+
+
+# ---- the record test
+
+def form_faults(data):
+    """2 'not 112 bytes, or mark, version or call wrong'"""
+    faults = []
+    if len(data) != LENGTH:
+        many = 'too few' if len(data) < LENGTH else 'too many'
+        faults.append(f'{len(data)} bytes, {abs(LENGTH - len(data))} {many}')
+    if data[0:3] != MARK:
+        faults.append(f"mark {data[0:3].hex() or 'missing'}, not {MARK.hex()} (SOB)")
+    if data[3:5] != VERSION.to_bytes(2, 'big'):
+        faults.append(f"version {data[3:5].hex() or 'missing'}, not 0001")
+    if len(data) < 6 or data[5] not in CALLS:
+        faults.append(f"call {data[5] if len(data) > 5 else 'missing'}, not 1 to 9")
+    return faults
+
+
+def range_faults(record, facilities, services):
+    """3 'facility >= F or service >= S, where used'"""
+    faults = []
+    if 'facility' in USES[record.call] and record.facility >= facilities:
+        faults.append(f'facility {record.facility}, and F is {facilities}')
+    if 'service' in USES[record.call] and record.service >= services:
+        faults.append(f'service {record.service}, and S is {services}')
+    return faults
+
+
+def stray_bytes(data):
+    """4 'an unused byte not zero': the places of such bytes."""
+    used = used_bytes(data[5], data[7])
+    return [place for place in range(6, LENGTH) if data[place] and place not in used]
+
+
+def stray_faults(data):
+    return [f'byte {place} ({field_at(place)}) is {data[place]}, unused and not zero' for place in stray_bytes(data)]
+
+
+def record_test(data, facilities, services):
+    """The number 0, 2, 3, 4 or 20, and what draws it; 20 comes first."""
+    if not 1 <= facilities <= 64 or services not in (1, 5):
+        return 20, [f'F {facilities}, S {services}: F is 1 to 64 and S is 1 or 5']
+    faults = form_faults(data)
+    if faults:
+        return 2, faults
+    faults = range_faults(read(data), facilities, services)
+    if faults:
+        return 3, faults
+    faults = stray_faults(data)
+    return (4, faults) if faults else (0, [])
+
+
+# ---- refusals that follow from the record alone, in any book that only calls have written
+
+LAST_CLOCK = 1_000_000_000
+LAST_PERIOD = 48 * (LAST_CLOCK // 1440 + 7) - 1
+
+
+def first_fault(tests):
+    for applies, number, text in tests:
+        if applies:
+            return number, text
+    return 0, ''
+
+
+def outside(values, lowest, highest):
+    return any(not lowest <= value <= highest for value in values)
+
+
+def capability_fault(r):
+    w = r.words
+    load_marks = w[0] == 2 and (w[12] == 1 or w[16] == 1)
+    return first_fault([
+        (w[0] not in KINDS, 8, 'the kind is not 1 (generation) or 2 (load)'),
+        (outside(w[1:7], 0, 99_999), 8, 'a maximum is outside 0.0 to 9999.9 MW'),
+        (outside(w[7:9], 0, 9_999), 8, 'a ramp maximum is outside 0.0 to 999.9 MW/min'),
+        (outside(w[9:12], 0, 1_000), 8, 'a proportion maximum is outside 0.000 to 1.000'),
+        (outside(w[12:17], 0, 1), 8, 'a mark is not 0 or 1'),
+        (load_marks, 8, 'a load is not registered for energy or regulation')])
+
+
+def period_tests(r):
+    return [(r.period <= 0, 10, f'period {r.period} has begun at any clock'),
+            (r.period > LAST_PERIOD, 10, f'period {r.period} is past the horizon at any clock')]
+
+
+def offer_tests(r):
+    pairs = pairs_of(r.words)
+    prices = [price for price, quantity in pairs if quantity != 0]
+    total = sum(quantity for _, quantity in pairs)
+    lowest = -10_000_000 if r.service == 0 else 0
+    return [
+        (r.reason > 6, 11, f'reason {r.reason} is above 6'),
+        (outside([q for _, q in pairs], 0, 99_999), 11, 'a quantity is outside 0.0 to 9999.9 MW'),
+        (outside([p for p, _ in pairs], lowest, 10_000_000), 11, 'a price is beyond any limits the book can be opened with'),
+        (any(q == 0 and p != 0 for p, q in pairs), 12, 'a blank pair has a price'),
+        (any(b <= a for a, b in zip(prices, prices[1:])), 13, 'prices of non-blank pairs do not strictly rise'),
+        (outside((r.ramp_up, r.ramp_down), 0, 9_999), 14, 'a ramp rate is outside 0.0 to 999.9 MW/min'),
+        (total > 99_999, 16, f'the total, {total} tenths of a MW, is above any maximum')]
+
+
+def any_book_refuses(data):
+    """A number and why: every book that only calls have written refuses the record with it, or with a lower one; else 0."""
+    number, faults = record_test(data, 64, 5)
+    if number:
+        return number, faults[0]
+    r = read(data)
+    if r.call == 1:
+        return first_fault([(outside([r.a], 0, LAST_CLOCK), 6, f'minute {r.a} is outside 0 to {LAST_CLOCK}')])
+    if r.call == 2:
+        return capability_fault(r)
+    if r.call == 3:
+        return first_fault([(outside([r.period], 0, 335), 10, f'slot {r.period} is outside 0 to 335')] + offer_tests(r))
+    if r.call == 4:
+        return first_fault(period_tests(r) + offer_tests(r))
+    if r.call == 5:
+        return first_fault([(outside([r.a], 0, LAST_CLOCK), 7, f'minute {r.a} is outside 0 to the clock'),
+                            (outside([r.b], 1, 48), 7, f'{r.b} periods: 1 to 3, for a load 1 to 48')])
+    if r.call == 6:
+        return first_fault([(r.reason not in NOTICES, 7, f'notice {r.reason} is not 3, 4 or 5'),
+                            (not 0 <= r.a <= r.b <= 40_000_000, 7, f'not 0 <= first {r.a} <= last {r.b} <= 40000000')])
+    if r.call == 7:
+        return first_fault([(r.reason != 5, 7, 'only notice 5, system status, can be withdrawn')])
+    return first_fault(period_tests(r))
