@@ -1,5 +1,5 @@
 /* Bilzhaan for C99 and C++: a half-hour offer book kept in words that the caller lends (document 01).
- * The four functions, their numbers and what they ask of the caller. Link with libbilzhaan.a. */
+ * The functions, their numbers and what they ask of the caller. Link with libbilzhaan.a. */
 #ifndef BILZHAAN_H
 #define BILZHAAN_H
 

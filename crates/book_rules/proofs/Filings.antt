@@ -16,7 +16,7 @@ use Rattle.offer_rules.specs.Gate.{Window}
 use Rattle.book_rules.specs.Record.{call-of, facility-of, service-of, period-word, reason-of, word-A, word-B, capability-in, offer-in}
 use Rattle.book_rules.specs.Words.{put, cell, standing-stamp, variation-stamp}
 use Rattle.book_rules.specs.Book.{facilities-in, services-in, held, file-standing, file-variation, outage-words, book-accept}
-use Rattle.book_rules.specs.ListMachine.{newest, list-clock, list-capability, outage-window, list-outage, list-notice, list-standing, list-variation}
+use Rattle.book_rules.specs.ListMachine.{newest, list-clock, list-capability, list-outage, list-notice, list-standing, list-variation}
 use Rattle.book_rules.proofs.Calls.{length-capability, length-offer}
 use Rattle.book_rules.proofs.Places.{Key, clockK, noticeK, capabilityK, outageK, standingK, variationK, place, width}
 
@@ -111,7 +111,7 @@ module _ (b : List ℕ) where
   outage-keeps e l (variationK f s p) n = rw e
 
   pub outage-files : call-of b ≡ 5 → Files b (outageK (facility-of b)) (outage-words (toNat (word-A b)) (toNat (word-B b)))
-  unfolding book-accept place width shown listed newest list-outage window-words outage-window outage-words
+  unfolding book-accept place width shown listed newest list-outage window-words outage-words
   outage-files e = record {
     writes = λ w. rw e;
     sized = refl;

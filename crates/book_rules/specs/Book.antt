@@ -2,7 +2,7 @@
 use mathlib.Core.Bool.{Bool, cond}
 use mathlib.Core.List.{List, [], _∷_}
 use mathlib.Core.Option.{Option, none, some}
-use Prim.Native.Nat.{ℕ, _+_, _/_}
+use Prim.Native.Nat.{ℕ}
 use lib.Dec.{eqb}
 use lib.IntN.{ℤ, pos}
 use lib.ListN.{drop}
@@ -11,7 +11,7 @@ use Rattle.offer_rules.specs.Time.{slot-of}
 use Rattle.offer_rules.specs.Gate.{Window}
 use Rattle.book_rules.specs.Record.{call-of, facility-of, service-of, period-word, reason-of, word-A, word-B, capability-in, offer-in}
 use Rattle.book_rules.specs.Words.{part, put, clock-place, notice-place, limits-place, facility-place, outage-place, cell-place, standing-half, variation-half, cell, standing-stamp, variation-stamp, is-book}
-use Rattle.book_rules.specs.Force.{View, Answer, plain}
+use Rattle.book_rules.specs.Force.{View, empty-window, outage-window, Answer, plain}
 use Rattle.book_rules.specs.Refusals.{answer, after}
 
 -- ---- what the words show
@@ -55,9 +55,11 @@ file-standing w f s k o = put w (cell-place (facilities-in w) (services-in w) f 
 unfoldable pub file-variation : List ℤ → ℕ → ℕ → ℕ → List ℤ → List ℤ
 file-variation w f s p o = put w (cell-place (facilities-in w) (services-in w) f s variation-half (slot-of p)) (cell (variation-stamp p) o)
 
--- "Its window is m div 30 + 1 to m div 30 + n."
+abbrev pub words-of : Window → List ℤ
+words-of v = v .first ∷ (v .last ∷ [])
+
 unfoldable pub outage-words : ℕ → ℕ → List ℤ
-outage-words m n = pos (m / 30 + 1) ∷ (pos (m / 30 + n) ∷ [])
+outage-words m n = words-of (outage-window m n)
 
 -- "Other accepted calls write only the fields they carry. Calls 8 and 9 write none."
 -- "A new notice replaces that kind's old one; only kind 5 can be withdrawn, which sets its window to 1 to 0."
@@ -69,7 +71,7 @@ book-accept w b =
     (cond (eqb (call-of b) 4) (file-variation w (facility-of b) (service-of b) (toNat (period-word b)) (offer-in b))
     (cond (eqb (call-of b) 5) (put w (outage-place (facility-of b)) (outage-words (toNat (word-A b)) (toNat (word-B b))))
     (cond (eqb (call-of b) 6) (put w (notice-place (reason-of b)) (word-A b ∷ (word-B b ∷ [])))
-    (cond (eqb (call-of b) 7) (put w (notice-place 5) (pos 1 ∷ (pos 0 ∷ [])))
+    (cond (eqb (call-of b) 7) (put w (notice-place 5) (words-of empty-window))
     w))))))
 
 -- ---- what a call answers, and the words it leaves, for every words and bytes

@@ -2,7 +2,7 @@
 use mathlib.Core.Bool.{Bool}
 use mathlib.Core.List.{List, [], _∷_}
 use mathlib.Core.Option.{Option, none, some}
-use Prim.Native.Nat.{ℕ, zero, suc, _+_}
+use Prim.Native.Nat.{ℕ, zero, suc, _+_, _/_}
 use lib.IntN.{ℤ, pos, _+ℤ_}
 use Rattle.offer_rules.specs.Time.{slot-of}
 use Rattle.offer_rules.specs.Offer.{Pair, pairs, sum-of}
@@ -24,6 +24,10 @@ pub record View : Type 0 where
 -- "all windows 1 to 0 (empty)"
 abbrev pub empty-window : Window
 empty-window = record { first = pos 1; last = pos 0 }
+
+-- Of an outage, minute m and count n: "Its window is m div 30 + 1 to m div 30 + n."
+abbrev pub outage-window : ℕ → ℕ → Window
+outage-window m n = record { first = pos (m / 30 + 1); last = pos (m / 30 + n) }
 
 pub data InForce : Type 0 where
   no-offer : InForce

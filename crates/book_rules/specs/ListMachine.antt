@@ -3,14 +3,14 @@
 use mathlib.Core.Bool.{Bool, true, false, cond, _&&_}
 use mathlib.Core.List.{List, [], _∷_}
 use mathlib.Core.Option.{Option, none, some}
-use Prim.Native.Nat.{ℕ, _+_, _/_}
+use Prim.Native.Nat.{ℕ}
 use lib.Dec.{eqb}
 use lib.IntN.{ℤ, pos}
 use Rattle.offer_rules.specs.Numbers.{eqZ, toNat}
 use Rattle.offer_rules.specs.Gate.{Window}
 use Rattle.book_rules.specs.Record.{call-of, facility-of, service-of, period-word, reason-of, word-A, word-B, capability-in, offer-in}
 use Rattle.book_rules.specs.Words.{zeros}
-use Rattle.book_rules.specs.Force.{View, Answer, empty-window}
+use Rattle.book_rules.specs.Force.{View, Answer, empty-window, outage-window}
 use Rattle.book_rules.specs.Refusals.{answer, after}
 
 -- What the newest call says to which the test applies; `before` where there is none.
@@ -32,12 +32,8 @@ list-clock l = newest (λ c. eqb (call-of c) 1) word-A (pos 0) l
 unfoldable pub list-capability : List (List ℕ) → ℕ → List ℤ
 list-capability l f = newest (is-for 2 f) capability-in (zeros 17) l
 
--- "Its window is m div 30 + 1 to m div 30 + n."
-unfoldable pub outage-window : List ℕ → Window
-outage-window c = record { first = pos (toNat (word-A c) / 30 + 1); last = pos (toNat (word-A c) / 30 + toNat (word-B c)) }
-
 unfoldable pub list-outage : List (List ℕ) → ℕ → Window
-list-outage l f = newest (is-for 5 f) outage-window empty-window l
+list-outage l f = newest (is-for 5 f) (λ c. outage-window (toNat (word-A c)) (toNat (word-B c))) empty-window l
 
 -- "Notice: newest of its kind, for kind 5 unless a withdrawal is newer."
 unfoldable pub list-notice : List (List ℕ) → ℕ → Window
