@@ -36,7 +36,7 @@ usable w e =
       timely = u .most-clock;
     }
 
--- Refusal 2, and so 3 and 4, turns down all but 112 bytes.
+-- Refusal 2 turns down all but 112 bytes.
 length-is : (b : List ℕ) (F S : ℕ) → record-number b F S ≡ 0 → length b ≡ 112
 unfolding record-number is-record
 length-is b F S e =

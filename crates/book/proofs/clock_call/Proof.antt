@@ -1,4 +1,4 @@
-use borrow.Author.Needs.{needs}
+use borrow.Author.Needs.{needs, sfits-of}
 use Rattle.book.proofs.clock_call.Statement.{statement}
 use Rattle.book.proofs.clock_call.Tie as tie
 use mathlib.Core.Path.{_≡_, sym, _∙_, ap}
@@ -8,7 +8,6 @@ use lib.IntN.{ℤ}
 use mir.Val.{toZ, ofZ}
 use mir.Syntax.{w32}
 use mir.Facts.{toZ-ofZ}
-use borrow.Author.Needs.{sfits-of}
 use Rattle.book_rules.specs.Record.{word-A}
 use Rattle.book_rules.specs.Words.{put, clock-place}
 use Rattle.book_rules.specs.Refusals.{judge}

@@ -1,4 +1,4 @@
-use borrow.Author.Needs.{needs}
+use borrow.Author.Needs.{needs, sfits-of}
 use Rattle.book.proofs.notice_call.Statement.{statement}
 use Rattle.book.proofs.notice_call.Tie as tie
 use mathlib.Core.Path.{_≡_, sym, _∙_}
@@ -7,7 +7,6 @@ use native.Mathlib.Omega.{arith}
 use mir.Val.{toZ, ofZ}
 use mir.Syntax.{w32}
 use mir.Facts.{toZ-ofZ}
-use borrow.Author.Needs.{sfits-of}
 use Rattle.book_rules.specs.Record.{word-A, word-B, reason-of}
 use Rattle.book_rules.specs.Refusals.{judge, notice-number}
 use Rattle.book_rules.specs.Book.{book-view}

@@ -1,4 +1,4 @@
-use borrow.Author.Needs.{needs}
+use borrow.Author.Needs.{needs, sfits-of}
 use Rattle.book.proofs.outage_call.Statement.{statement}
 use Rattle.book.proofs.outage_call.Tie as tie
 use mathlib.Core.Path.{_≡_, refl, sym, _∙_, ap, ap₂}
@@ -9,7 +9,6 @@ use lib.IntN.{ℤ, pos}
 use mir.Val.{toZ, ofZ}
 use mir.Syntax.{w32}
 use mir.Facts.{toZ-ofZ}
-use borrow.Author.Needs.{sfits-of}
 use Rattle.offer_rules.specs.Numbers.{toNat, word, _then_}
 use Rattle.offer_rules.proofs.Drawn.{then-zero}
 use Rattle.book_rules.specs.Record.{word-A, word-B, facility-of}

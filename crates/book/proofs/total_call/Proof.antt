@@ -1,4 +1,4 @@
-use borrow.Author.Needs.{needs}
+use borrow.Author.Needs.{needs, sfits-of}
 use Rattle.book.proofs.total_call.Statement.{statement}
 use Rattle.book.proofs.total_call.Tie as tie
 use mathlib.Core.Path.{_≡_, sym, _∙_, ap}
@@ -6,7 +6,6 @@ use native.Mathlib.Omega.{arith}
 use mir.Val.{toZ, ofZ}
 use mir.Syntax.{w32}
 use mir.Facts.{toZ-ofZ}
-use borrow.Author.Needs.{sfits-of}
 use Rattle.offer_rules.specs.Numbers.{toNat, word}
 use Rattle.book_rules.specs.Record.{period-word}
 use Rattle.book_rules.specs.Words.{clock-place}

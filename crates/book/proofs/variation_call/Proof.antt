@@ -1,4 +1,4 @@
-use borrow.Author.Needs.{needs}
+use borrow.Author.Needs.{needs, sfits-of}
 use Rattle.book.proofs.variation_call.Statement.{statement}
 use Rattle.book.proofs.variation_call.Tie as tie
 use mathlib.Core.Path.{_≡_, sym, _∙_, ap}
@@ -8,7 +8,6 @@ use lib.ListN.{length}
 use mir.Val.{toZ, ofZ}
 use mir.Syntax.{w32}
 use mir.Facts.{toZ-ofZ}
-use borrow.Author.Needs.{sfits-of}
 use Rattle.offer_rules.specs.Numbers.{toNat}
 use Rattle.offer_rules.specs.Time.{slot-of}
 use Rattle.book_rules.specs.Record.{facility-of, service-of, period-word, reason-of, offer-in}
