@@ -16,7 +16,7 @@ use Rattle.book_rules.proofs.Calls.{Which, named, capability-uses, standing-use
 use Rattle.opening.specs.Usable as opening
 use Rattle.opening.proofs.UsableBooks as books
 use Rattle.judging.specs.Usable.{Usable}
-use Rattle.book.specs.Tested.{Tested, Facility, Place}
+use Rattle.judging.specs.Tested.{Tested, Facility, Place}
 
 -- Refusal 1.
 pub usable : (w : List ℤ) → is-book w ≡ true → Usable w

@@ -1,5 +1,2 @@
--- Laws that the calls' proofs share.
-pub mod Answering
-pub mod Passed
-pub mod LookUpNumber
+-- What refusals 1 to 4 leave to a call.
 pub mod Admitted

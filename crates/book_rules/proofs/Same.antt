@@ -94,6 +94,13 @@ pub window-there-and-back : (x y : Window) → window-words x ≡ window-words y
 unfolding window-words window-in
 window-there-and-back x y e = ap window-in e
 
+-- An accepted notice is of kind 3, 4 or 5.
+pub notice-kinds : (k : ℕ) (a z : ℤ) → notice-number k a z ≡ 0 → (3 ≤ k) × (k ≤ 5)
+unfolding notice-number
+notice-kinds k a z e =
+    let t = not-false (between 3 5 k) (or-left (not (between 3 5 k)) (not ((leZ (pos 0) a && leZ a z) && leZ z (pos 40000000))) (draw-zero _ 7 (omega arith) e)) in
+    (leb-true 3 k (and-left (leb 3 k) (leb k 5) t), leb-true k 5 (and-right (leb 3 k) (leb k 5) t))
+
 -- The views agree on every facility.
 abbrev pub Everyone : ℕ → Type 0
 Everyone f = Unit {0}
@@ -272,13 +279,6 @@ module _ (F S : ℕ) (limits : List ℤ) where
       let q : list-clock (b ∷ l) ≡ list-clock l = ap (λ (c : List ℤ). word c 0) (x .keeps l clockK (λ p. true≢false (ap is-clockK p ∙ e))) in
       let h = ap toNat q in
       (omega arith, rw q (r .timely))
-
-  -- An accepted notice is of kind 3, 4 or 5.
-  notice-kinds : (k : ℕ) (a z : ℤ) → notice-number k a z ≡ 0 → (3 ≤ k) × (k ≤ 5)
-  unfolding notice-number
-  notice-kinds k a z e =
-      let t = not-false (between 3 5 k) (or-left (not (between 3 5 k)) (not ((leZ (pos 0) a && leZ a z) && leZ z (pos 40000000))) (draw-zero _ 7 (omega arith) e)) in
-      (leb-true 3 k (and-left (leb 3 k) (leb k 5) t), leb-true k 5 (and-right (leb 3 k) (leb k 5) t))
 
   -- ---- every accepted call
 

@@ -4,7 +4,7 @@ use Rattle.book.proofs.carry_out.Tie as tie
 use mathlib.Core.Logic.{⊎-elim}
 use native.Mathlib.Omega.{arith}
 use Rattle.book_rules.proofs.Calls.{Which, is-clock, is-capability, is-standing, is-variation, is-outage, is-notice, is-withdrawal, is-look-up, is-total}
-use Rattle.book.proofs.Answering.{unwritten}
+use Rattle.judging.proofs.Answering.{unwritten}
 use Rattle.book.proofs.Admitted.{one-of-nine, capability-facility, outage-facility, standing-place, variation-place, look-up-place, total-service}
 
 -- Refusal 2 has turned down every other call.

@@ -1,6 +1,6 @@
 use borrow.Author.Needs.{needs, sfits-of}
-use Rattle.book.proofs.outage_call.Statement.{statement}
-use Rattle.book.proofs.outage_call.Tie as tie
+use Rattle.writing.proofs.outage_call.Statement.{statement}
+use Rattle.writing.proofs.outage_call.Tie as tie
 use mathlib.Core.Path.{_≡_, refl, sym, _∙_, ap, ap₂}
 use mathlib.Core.List.{[], _∷_}
 use Prim.Native.Nat.{ℕ, _+_, _/_}
@@ -20,7 +20,7 @@ use Rattle.book_rules.proofs.OneCall.{accept-outage}
 use Rattle.refusals.proofs.OutagePassed.{outage-passed}
 use Rattle.cells.specs.Meaning.{answer-of}
 use Rattle.judging.proofs.Lent.{lent}
-use Rattle.book.proofs.Answering.{refused, filed}
+use Rattle.judging.proofs.Answering.{refused, filed}
 
 minute : (c : tie.After-word-at) → toZ w32 (ofZ w32 (c .word-at .result)) ≡ word-A (c .before .before .before .before .args .bytes .now)
 minute c = toZ-ofZ {w = w32} (sfits-of (c .word-at .ok)) ∙ c .word-at .ensures

@@ -1,6 +1,6 @@
 use borrow.Author.Needs.{needs, sfits-of}
-use Rattle.book.proofs.notice_call.Statement.{statement}
-use Rattle.book.proofs.notice_call.Tie as tie
+use Rattle.writing.proofs.notice_call.Statement.{statement}
+use Rattle.writing.proofs.notice_call.Tie as tie
 use mathlib.Core.Path.{_≡_, sym, _∙_}
 use Prim.Native.Nat.{_≤_}
 use native.Mathlib.Omega.{arith}
@@ -13,8 +13,8 @@ use Rattle.book_rules.specs.Book.{book-view}
 use Rattle.book_rules.proofs.Calls.{judge-notice}
 use Rattle.book_rules.proofs.OneCall.{accept-notice}
 use Rattle.cells.specs.Meaning.{answer-of}
-use Rattle.book.proofs.Answering.{refused, filed}
-use Rattle.book.proofs.Passed.{notice-kinds}
+use Rattle.judging.proofs.Answering.{refused, filed}
+use Rattle.book_rules.proofs.Same.{notice-kinds}
 
 first : (c : tie.After-word-at) → toZ w32 (ofZ w32 (c .word-at .result)) ≡ word-A (c .before .before .before .args .bytes .now)
 first c = toZ-ofZ {w = w32} (sfits-of (c .word-at .ok)) ∙ c .word-at .ensures

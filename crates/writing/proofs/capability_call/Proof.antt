@@ -1,6 +1,6 @@
 use borrow.Author.Needs.{needs}
-use Rattle.book.proofs.capability_call.Statement.{statement}
-use Rattle.book.proofs.capability_call.Tie as tie
+use Rattle.writing.proofs.capability_call.Statement.{statement}
+use Rattle.writing.proofs.capability_call.Tie as tie
 use mathlib.Core.Path.{_≡_, refl, sym, _∙_, ap, ap₂}
 use Prim.Native.Nat.{ℕ, _+_}
 use native.Mathlib.Omega.{arith}
@@ -12,7 +12,7 @@ use Rattle.book_rules.proofs.Calls.{judge-capability}
 use Rattle.book_rules.proofs.OneCall.{accept-capability}
 use Rattle.cells.specs.Meaning.{answer-of}
 use Rattle.judging.proofs.Lent.{lent}
-use Rattle.book.proofs.Answering.{refused, filed}
+use Rattle.judging.proofs.Answering.{refused, filed}
 
 drawn : (c : tie.After-capability-number) → let s = c .before .before .before .before .before .before .before .before in
     judge (book-view (s .args .book .now)) (s .args .bytes .now) ≡ c .capability-number .result

@@ -1,6 +1,6 @@
 use borrow.Author.Needs.{needs}
-use Rattle.book.proofs.withdrawal_call.Statement.{statement}
-use Rattle.book.proofs.withdrawal_call.Tie as tie
+use Rattle.writing.proofs.withdrawal_call.Statement.{statement}
+use Rattle.writing.proofs.withdrawal_call.Tie as tie
 use mathlib.Core.Path.{_≡_, sym, _∙_}
 use mathlib.Core.List.{[], _∷_}
 use lib.IntN.{pos}
@@ -11,7 +11,7 @@ use Rattle.book_rules.specs.Book.{book-view}
 use Rattle.book_rules.proofs.Calls.{judge-withdrawal}
 use Rattle.book_rules.proofs.OneCall.{accept-withdrawal}
 use Rattle.cells.specs.Meaning.{answer-of}
-use Rattle.book.proofs.Answering.{refused, filed}
+use Rattle.judging.proofs.Answering.{refused, filed}
 
 drawn : (c : tie.After-withdrawal-number) → let s = c .before .before .before in judge (book-view (s .args .book .now)) (s .args .bytes .now) ≡ c .withdrawal-number .result
 drawn c =

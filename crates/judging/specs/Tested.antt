@@ -7,9 +7,7 @@ use lib.IntN.{ℤ}
 use lib.ListN.{length}
 use Rattle.book_rules.specs.Record.{call-of, facility-of, service-of, record-number}
 use Rattle.book_rules.specs.Book.{facilities-in, services-in}
 use Rattle.judging.specs.Usable.{Usable}
-use Rattle.cells.specs.declared.InForce as place
-use Rattle.cells.specs.declared.InForce.the-variants.{Nothing, Standing, Variation}
 
 -- Refusals 1 to 4.
 pub record Tested (w : List ℤ) (b : List ℕ) : Type 0 where
@@ -28,8 +26,3 @@ pub record Place (w : List ℤ) (b : List ℕ) (k : ℕ) : Type 0 where
   pub call-is : call-of b ≡ k
   pub facility-in : facility-of b < facilities-in w
   pub service-in : service-of b < services-in w
-
-unfoldable pub holds-nothing : place.InForce → Bool
-holds-nothing Nothing = true
-holds-nothing (Standing at) = false
-holds-nothing (Variation at) = false

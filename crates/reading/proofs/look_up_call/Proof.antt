@@ -1,6 +1,6 @@
 use borrow.Author.Needs.{needs, sfits-of}
-use Rattle.book.proofs.look_up_call.Statement.{statement}
-use Rattle.book.proofs.look_up_call.Tie as tie
+use Rattle.reading.proofs.look_up_call.Statement.{statement}
+use Rattle.reading.proofs.look_up_call.Tie as tie
 use mathlib.Core.Path.{_≡_, sym, _∙_, ap}
 use native.Mathlib.Omega.{arith}
 use mir.Val.{toZ, ofZ}
@@ -15,9 +15,9 @@ use Rattle.book_rules.specs.Refusals.{judge, facility-number, period-number, fo
 use Rattle.book_rules.specs.Book.{book-view}
 use Rattle.book_rules.proofs.Calls.{judge-look-up, reply-look-up}
 use Rattle.cells.specs.Meaning.{answer-of, meaning}
-use Rattle.book.proofs.Answering.{refused, read}
-use Rattle.book.proofs.Passed.{period-bounded}
-use Rattle.book.proofs.LookUpNumber.{refused-before, as-in-force, nothing-number, something-number}
+use Rattle.judging.proofs.Answering.{refused, read}
+use Rattle.reading.proofs.Periods.{period-bounded}
+use Rattle.reading.proofs.LookUpNumber.{refused-before, as-in-force, nothing-number, something-number}
 
 period : (c : tie.After-word-at) → toZ w32 (ofZ w32 (c .word-at .result)) ≡ period-word (c .before .before .before .before .before .before .args .bytes .now)
 period c = toZ-ofZ {w = w32} (sfits-of (c .word-at .ok)) ∙ c .word-at .ensures

@@ -12,7 +12,7 @@ use Rattle.book_rules.specs.Refusals.{facility-number, period-number, force-num
 use Rattle.cells.specs.Meaning.{meaning}
 use Rattle.cells.specs.declared.InForce as place
 use Rattle.cells.specs.declared.InForce.the-variants.{Nothing, Standing, Variation}
-use Rattle.book.specs.Tested.{holds-nothing}
+use Rattle.reading.specs.Nothing.{holds-nothing}
 
 module _ (n m k : ℕ) where
   drawn-before : ((n then m) ≡ 0 → ⊥) → (n then (m then k)) ≡ (n then m)

@@ -1,6 +1,6 @@
 use borrow.Author.Needs.{needs, sfits-of}
-use Rattle.book.proofs.variation_call.Statement.{statement}
-use Rattle.book.proofs.variation_call.Tie as tie
+use Rattle.writing.proofs.variation_call.Statement.{statement}
+use Rattle.writing.proofs.variation_call.Tie as tie
 use mathlib.Core.Path.{_≡_, sym, _∙_, ap}
 use Prim.Native.Nat.{_+_, _≤_, _<_}
 use native.Mathlib.Omega.{arith}
@@ -18,7 +18,7 @@ use Rattle.book_rules.proofs.Calls.{judge-variation, length-offer}
 use Rattle.book_rules.proofs.OneCall.{accept-variation}
 use Rattle.book_rules.proofs.Rules.{variation-accepted}
 use Rattle.cells.specs.Meaning.{answer-of}
-use Rattle.book.proofs.Answering.{refused, filed}
+use Rattle.judging.proofs.Answering.{refused, filed}
 
 period : (c : tie.After-word-at) → toZ w32 (ofZ w32 (c .word-at .result)) ≡ period-word (c .before .before .before .before .before .args .bytes .now)
 period c = toZ-ofZ {w = w32} (sfits-of (c .word-at .ok)) ∙ c .word-at .ensures

@@ -9,7 +9,7 @@ use Rattle.book_rules.specs.Force.{Answer, plain}
 use Rattle.book_rules.specs.Refusals.{judge, reply}
 use Rattle.book_rules.specs.Book.{book-view, book-accept, book-answer, book-after}
 use Rattle.book_rules.proofs.OneCall.{refused-call, accepted-call, accepted-filing, accept-reader}
-use Rattle.book.specs.Tested.{Tested}
+use Rattle.judging.specs.Tested.{Tested}
 
 -- The answer a, the words v afterwards.
 abbrev pub Answers : List ℤ → List ℕ → Answer → List ℤ → Type 0

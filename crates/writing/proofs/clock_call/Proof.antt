@@ -1,6 +1,6 @@
 use borrow.Author.Needs.{needs, sfits-of}
-use Rattle.book.proofs.clock_call.Statement.{statement}
-use Rattle.book.proofs.clock_call.Tie as tie
+use Rattle.writing.proofs.clock_call.Statement.{statement}
+use Rattle.writing.proofs.clock_call.Tie as tie
 use mathlib.Core.Path.{_≡_, sym, _∙_, ap}
 use native.Mathlib.Omega.{arith}
 use mathlib.Core.List.{[], _∷_}
@@ -15,7 +15,7 @@ use Rattle.book_rules.specs.Book.{book-view}
 use Rattle.book_rules.proofs.Calls.{judge-clock}
 use Rattle.book_rules.proofs.OneCall.{accept-clock}
 use Rattle.cells.specs.Meaning.{answer-of}
-use Rattle.book.proofs.Answering.{refused, filed}
+use Rattle.judging.proofs.Answering.{refused, filed}
 
 minute : (c : tie.After-word-at) → toZ w32 (ofZ w32 (c .word-at .result)) ≡ word-A (c .before .before .args .bytes .now)
 minute c = toZ-ofZ {w = w32} (sfits-of (c .word-at .ok)) ∙ c .word-at .ensures

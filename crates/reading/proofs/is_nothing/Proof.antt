@@ -1,9 +1,9 @@
 use mathlib.Core.Path.{_≡_}
 use mathlib.Core.Bool.{false}
 use borrow.Author.Needs.{needs}
-use Rattle.book.proofs.is_nothing.Statement.{statement}
-use Rattle.book.proofs.is_nothing.Tie as tie
-use Rattle.book.specs.Tested.{holds-nothing}
+use Rattle.reading.proofs.is_nothing.Statement.{statement}
+use Rattle.reading.proofs.is_nothing.Tie as tie
+use Rattle.reading.specs.Nothing.{holds-nothing}
 
 enum-told : tie.Need-enum-told
 enum-told c = search needs

@@ -1,0 +1,3 @@
+-- Laws of what a reader draws.
+pub mod Periods
+pub mod LookUpNumber
