@@ -2,7 +2,7 @@
 -- the words that they leave, their answers and the numbers of these.
 use mathlib.Core.Path.{_≡_, refl, sym, ap, ap₂, _∙_}
 use mathlib.Core.List.{List, [], _∷_, _++_, append-assoc, append-nil}
-use Prim.Native.Nat.{ℕ, zero, suc, _+_, _*_, _≤_}
+use Prim.Native.Nat.{ℕ, zero, suc, _+_, _*_, _-_, _≤_}
 use native.Mathlib.Numerals.{add-one}
 use native.Mathlib.Omega.{arith}
 use lib.IntN.{ℤ}
@@ -15,6 +15,13 @@ use Rattle.listed.specs.ListAnswered.{chopped, numbers-of, flat}
 -- Record n, from 0, of 112 bytes.
 abbrev pub record-at : ℕ → List ℕ → List ℕ
 record-at n bytes = take 112 (drop (112 * n) bytes)
+
+-- What is lent of a list as its part from a to e, and record n lent so.
+abbrev pub lent-part : ℕ → ℕ → List ℕ → List ℕ
+lent-part a e bytes = take (e - a) (drop a bytes)
+
+pub lent-record : (n : ℕ) (bytes : List ℕ) → lent-part (112 * n) (112 * n + 112) bytes ≡ record-at n bytes
+lent-record n bytes = let width : 112 * n + 112 - 112 * n ≡ 112 = omega arith in ap (λ (k : ℕ). take k (drop (112 * n) bytes)) width
 
 chopped-last : (n : ℕ) (bytes : List ℕ) → chopped (suc n) bytes ≡ chopped n bytes ++ (record-at n bytes ∷ [])
 unfolding chopped

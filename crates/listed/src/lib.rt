@@ -1,14 +1,13 @@
 // A list of records in one go: a book is opened in lent words, the records are called on it one after another, and their answers written.
 // Document 01, demand 3, as the promise of a function: the answers are the list machine's.
 ghost use mathlib.Core.Path.{_≡_};
-ghost use mathlib.Core.List.{_++_};
+ghost use mathlib.Core.List.{[], _∷_, _++_};
 ghost use Prim.Native.Nat.{_*_, _≤_, min};
+ghost use lib.IntN.{pos};
 ghost use lib.ListN.{length, drop};
 ghost use Rattle.book_rules.specs.Book.{book-answer, book-after, book-answers, book-run};
-ghost use Rattle.cells.specs.Meaning.{answer-of};
 ghost use Rattle.listed.specs.ListAnswered.{chopped, numbers-of, flat, ListAnswered};
 use book::call;
-use cells::Answer;
 use opening::open;
 
 // "Exactly 112 bytes."
@@ -47,14 +46,12 @@ fn write_words(out: &mut [i64], words: &[i32])
     }
 }
 
-fn write_answer(out: &mut [i64], answer: Answer)
-    requires { ⌜ length (now out) ≡ 26 ⌝ }
-    ensures { λ _. ⌜ now (out .exit) ≡ numbers-of (answer-of answer) ⌝ }
+fn write_numbers(out: &mut [i64], number: u32, words: &[i32], sum: i64)
+    requires { ⌜ (length (now out) ≡ 26) × (length (now words) ≡ 24) ⌝ }
+    ensures { λ _. ⌜ now (out .exit) ≡ pos number ∷ (now (words .entry) ++ (sum ∷ [])) ⌝ }
 {
-    let words = answer.words;
-    out[0] = answer.number as i64;
-    write_words(&mut out[1..25], &words);
-    let sum = answer.sum;
+    out[0] = number as i64;
+    write_words(&mut out[1..25], words);
     out[25] = sum;
 }
 
@@ -65,7 +62,10 @@ fn answer_record(words: &mut [i32], bytes: &[u8], out: &mut [i64])
     requires { ⌜ length (now out) ≡ 26 ⌝ }
     ensures { λ _. ⌜ (now (out .exit) ≡ numbers-of (book-answer (now (words .entry)) (now (bytes .entry)))) × (now (words .exit) ≡ book-after (now (words .entry)) (now (bytes .entry))) ⌝ }
 {
-    write_answer(out, call(words, bytes));
+    let answer = call(words, bytes);
+    let said = answer.words;
+    let sum = answer.sum;
+    write_numbers(out, answer.number, &said, sum);
 }
 
 // Each record is called on the words that the one before left.

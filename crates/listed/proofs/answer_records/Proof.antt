@@ -9,7 +9,7 @@ use borrow.Author.Needs.{needs}
 use Rattle.book_rules.specs.Book.{book-answer, book-after, book-answers, book-run}
 use Rattle.opening.proofs.LentParts.{lent-next}
 use Rattle.listed.specs.ListAnswered.{chopped, numbers-of, flat}
-use Rattle.listed.proofs.OneMoreRecord.{record-at, words-more, numbers-more, length-before}
+use Rattle.listed.proofs.OneMoreRecord.{record-at, lent-part, lent-record, words-more, numbers-more, length-before}
 use Rattle.listed.proofs.answer_records.Statement.{statement}
 use Rattle.listed.proofs.answer_records.Tie as tie
 
@@ -68,6 +68,13 @@ part-answer-record-end-2 c = search needs
 answer-record-requires : tie.Need-answer-record-requires Inv-loop μ-loop
 answer-record-requires c κs = search needs
 
+-- The part that is called, on the words so far, starts at byte 112·i and ends at 112·i + 112.
+called : (c : tie.After-answer-record Inv-loop μ-loop) →
+    let l = c .before .before .before .before .before .loop in
+    let lent = lent-part (112 * l .i) (112 * l .i + 112) (c .before .before .before .before .before .before .before .args .records .now) in
+    (c .answer-record .last .1 .1 .0 ≡ numbers-of (book-answer (l .words) lent)) × (c .answer-record .last .0 ≡ book-after (l .words) lent)
+called c = search needs
+
 add-i : tie.Need-add-i Inv-loop μ-loop
 add-i c = search needs
 
@@ -82,17 +89,15 @@ loop-again c =
     let d = s .args .answers .now in
     let w = s .args .words .now in
     let bytes = s .args .records .now in
-    let called = c .before .before .answer-record in
+    let last = c .before .before .answer-record .last .1 .1 .0 in
     let front = flat (book-answers w (chopped (l .i) bytes)) in
     let next = numbers-of (book-answer (book-run w (chopped (l .i) bytes)) (record-at (l .i) bytes)) in
     let from : 26 * (l .i + 1) ≡ 26 * l .i + 26 = omega arith in
-    let width : 112 * l .i + 112 - 112 * l .i ≡ 112 = omega arith in
-    let written : called .last .1 .1 .0 ≡ next =
-    called .ensures .0 ∙ ap₂ (λ (v : List ℤ) (k : ℕ). numbers-of (book-answer v (take k (drop (112 * l .i) bytes)))) (l .inv .6) width in
-    let left : called .last .0 ≡ book-after (book-run w (chopped (l .i) bytes)) (record-at (l .i) bytes) =
-    called .ensures .1 ∙ ap₂ (λ (v : List ℤ) (k : ℕ). book-after v (take k (drop (112 * l .i) bytes))) (l .inv .6) width in
+    let answered = called (c .before .before) in
+    let read = lent-record (l .i) bytes in
+    let written : last ≡ next = answered .0 ∙ ap₂ (λ (v : List ℤ) (b : List ℕ). numbers-of (book-answer v b)) (l .inv .6) read in
     let before = length-before front d (l .answers) (26 * l .i) (l .inv .5) (l .inv .4) (omega arith) in
-    let long : length (called .last .1 .1 .0) ≡ 26 = search needs in (
+    let long : length last ≡ 26 = search needs in (
       omega arith,
       search needs,
       search needs,
@@ -101,7 +106,7 @@ loop-again c =
       ap₂ (λ (x y : List ℤ). putMid (26 * l .i) (26 * l .i + 26 - 26 * l .i) x y) (l .inv .5) written
           ∙ lent-next front d next (26 * l .i) (26 * l .i + 26) before (omega (arith, ap length written))
           ∙ rw (numbers-more w bytes (l .i), from),
-      left ∙ sym (words-more w bytes (l .i)),
+      answered .1 ∙ ap₂ book-after (l .inv .6) read ∙ sym (words-more w bytes (l .i)),
     )
 
 same-length : tie.Need-same-length Inv-loop μ-loop
