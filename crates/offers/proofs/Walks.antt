@@ -1,30 +1,89 @@
 -- What a walk through the pairs finds is what refusals 11 to 13 ask of them.
-use mathlib.Core.Path.{_≡_, refl, ap, _∙_}
+use mathlib.Core.Path.{_≡_, refl, sym, ap, _∙_, subst}
 use mathlib.Core.Bool.{Bool, true, false, not, cond, _&&_, _||_}
 use mathlib.Core.List.{List, [], _∷_}
 use Prim.Native.Nat.{ℕ, _+_, _*_, _<_, _≤_}
+use native.Mathlib.Omega.{arith}
+use borrow.Author.Tests.{eqb-true}
+use lib.Dec.{T}
 use lib.ListN.{length, drop}
-use lib.IntN.{ℤ}
-use Rattle.offer_rules.specs.Offer.{Pair, pairs-in, is-blank, lowest-price, highest-price, any-pair, pair-out-of-range, is-priced-blank, non-blank-prices, rises}
+use lib.IntN.{ℤ, pos, negsuc, natAbs, _+ℤ_, +ℤ-assoc, +ℤ-idl, +ℤ-idr}
+use Rattle.offer_rules.specs.Numbers.{eqZ}
+use Rattle.offer_rules.specs.Offer.{Pair, pairs-in, is-blank, sum-of, lowest-price, highest-price, any-pair, pair-out-of-range, is-priced-blank, non-blank-prices, rises}
 use Rattle.units.specs.Typed.{price-of, quantity-of}
 use Rattle.units.specs.declared.Price.{Price}
+use Rattle.units.specs.declared.Quantity.{Quantity}
+use Rattle.units.proofs.Adding.{abs-add}
 use Rattle.offers.specs.declared.pairs.Findings.{Findings}
-use Rattle.offers.specs.PairTests.{still-rises, with-pair, none-yet, found-from, found-in}
+use Rattle.offers.specs.PairTests.{blank, outside, still-rises, with-blank, with-filled, with-pair, none-yet, refused, found-from, found-in}
 use Rattle.offers.proofs.Pairing.{pair-at, pairs-from, pairs-end}
 
 -- ---- the walk, turn by turn
 
-pub found-turn : (lowest highest : Price) (f : Findings) (ws : List ℤ) (i : ℕ) → 2 * i + 1 < length ws
-    → found-from lowest highest f (pairs-in (drop (2 * i) ws))
-    ≡ found-from lowest highest (with-pair lowest highest f (price-of (pair-at ws i .price)) (quantity-of (pair-at ws i .quantity))) (pairs-in (drop (2 * (i + 1)) ws))
+found-turn : (lowest highest : Price) (f : Findings) (ws : List ℤ) (i : ℕ) → 2 * i + 1 < length ws
+    → let p = price-of (pair-at ws i .price) in
+    let q = quantity-of (pair-at ws i .quantity) in
+    found-from lowest highest f (pairs-in (drop (2 * i) ws))
+    ≡ cond (outside lowest highest p q) refused (found-from lowest highest (with-pair f p q) (pairs-in (drop (2 * (i + 1)) ws)))
 unfolding found-from
 found-turn lowest highest f ws i h = ap (found-from lowest highest f) (pairs-from ws i h)
+
+module _ (lowest highest : Price) (f : Findings) (ws : List ℤ) (i : ℕ) (p : Price) (q : Quantity) (h : 2 * i + 1 < length ws)
+    (ep : p ≡ price-of (pair-at ws i .price)) (eq : q ≡ quantity-of (pair-at ws i .quantity)) where
+  turn-of : found-from lowest highest f (pairs-in (drop (2 * i) ws)) ≡ cond (outside lowest highest p q) refused (found-from lowest highest (with-pair f p q) (pairs-in (drop (2 * (i + 1)) ws)))
+  turn-of = rw (ep, eq) (found-turn lowest highest f ws i h)
+
+  pub found-ends : outside lowest highest p q ≡ true → found-from lowest highest f (pairs-in (drop (2 * i) ws)) ≡ refused
+  found-ends o = turn-of ∙ ap (λ (t : Bool). cond t refused (found-from lowest highest (with-pair f p q) (pairs-in (drop (2 * (i + 1)) ws)))) o
+
+  pub found-goes-on : outside lowest highest p q ≡ false → found-from lowest highest f (pairs-in (drop (2 * i) ws)) ≡ found-from lowest highest (with-pair f p q) (pairs-in (drop (2 * (i + 1)) ws))
+  found-goes-on o = turn-of ∙ ap (λ (t : Bool). cond t refused (found-from lowest highest (with-pair f p q) (pairs-in (drop (2 * (i + 1)) ws)))) o
 
 pub found-whole : (lowest highest : Price) (f : Findings) (ws : List ℤ) (n : ℕ) → length ws ≤ n → found-from lowest highest f (pairs-in (drop n ws)) ≡ f
 unfolding found-from
 found-whole lowest highest f ws n h = ap (found-from lowest highest f) (pairs-end ws n h)
 
--- ---- 11 and 12: some pair
+-- ---- 11: some pair
+
+-- a pair more leaves this flag
+outside-kept : (f : Findings) (p : Price) (q : Quantity) (b : Bool) → cond b (with-blank f p) (with-filled f p q) .outside ≡ f .outside
+unfolding with-blank with-filled
+outside-kept f p q true = refl
+outside-kept f p q false = refl
+
+found-outside : (limits : List ℤ) (s : ℕ) (f : Findings) (l : List Pair) → f .outside ≡ false
+    → found-from (price-of (lowest-price limits s)) (price-of (highest-price limits s)) f l .outside ≡ any-pair (pair-out-of-range limits s) l
+unfolding found-from any-pair pair-out-of-range
+found-outside limits s f [] h = h
+found-outside limits s f (x ∷ l) h =
+    let p = price-of (x .price) in
+    let q = quantity-of (x .quantity) in
+    go (pair-out-of-range limits s x)
+    (found-from (price-of (lowest-price limits s)) (price-of (highest-price limits s)) (with-pair f p q) l)
+    (found-outside limits s (with-pair f p q) l (outside-kept f p q (blank q) ∙ h))
+  where
+    go : (t : Bool) (g : Findings) → g .outside ≡ any-pair (pair-out-of-range limits s) l → cond t refused g .outside ≡ (t || any-pair (pair-out-of-range limits s) l)
+    go true g e = refl
+    go false g e = e
+
+-- ---- where no pair is outside, the walk goes to the end
+
+abbrev walked : Findings → List Pair → Findings
+walked f [] = f
+walked f (x ∷ l) = walked (with-pair f (price-of (x .price)) (quantity-of (x .quantity))) l
+
+found-walked : (limits : List ℤ) (s : ℕ) (f : Findings) (l : List Pair) → any-pair (pair-out-of-range limits s) l ≡ false
+    → found-from (price-of (lowest-price limits s)) (price-of (highest-price limits s)) f l ≡ walked f l
+unfolding found-from any-pair pair-out-of-range
+found-walked limits s f [] h = refl
+found-walked limits s f (x ∷ l) h =
+    go (pair-out-of-range limits s x) h (found-walked limits s (with-pair f (price-of (x .price)) (quantity-of (x .quantity))) l)
+  where
+    go : (t : Bool) {g w : Findings} → (t || any-pair (pair-out-of-range limits s) l) ≡ false → (any-pair (pair-out-of-range limits s) l ≡ false → g ≡ w) → cond t refused g ≡ w
+    go true e k = absurd (subst T e tt)
+    go false e k = k e
+
+-- ---- 12: a blank pair with a price
 
 or-false : (x : Bool) → x ≡ (x || false)
 or-false true = refl
@@ -34,21 +93,19 @@ or-assoc : (x y z : Bool) → ((x || y) || z) ≡ (x || (y || z))
 or-assoc true y z = refl
 or-assoc false y z = refl
 
-found-outside : (limits : List ℤ) (s : ℕ) (f : Findings) (l : List Pair)
-    → found-from (price-of (lowest-price limits s)) (price-of (highest-price limits s)) f l .outside ≡ (f .outside || any-pair (pair-out-of-range limits s) l)
-unfolding found-from with-pair any-pair pair-out-of-range
-found-outside limits s f [] = or-false (f .outside)
-found-outside limits s f (x ∷ l) =
-    found-outside limits s (with-pair (price-of (lowest-price limits s)) (price-of (highest-price limits s)) f (price-of (x .price)) (quantity-of (x .quantity))) l
-    ∙ or-assoc (f .outside) (pair-out-of-range limits s x) (any-pair (pair-out-of-range limits s) l)
+priced-on : (f : Findings) (p : Price) (q : Quantity) (b t : Bool)
+    → (cond b (with-blank f p) (with-filled f p q) .priced || t) ≡ (f .priced || ((b && not (eqZ (p .0) (pos 0))) || t))
+unfolding with-blank with-filled
+priced-on f p q true t = or-assoc (f .priced) (not (eqZ (p .0) (pos 0))) t
+priced-on f p q false t = refl
 
-found-priced : (lowest highest : Price) (f : Findings) (l : List Pair)
-    → found-from lowest highest f l .priced ≡ (f .priced || any-pair is-priced-blank l)
-unfolding found-from with-pair any-pair
-found-priced lowest highest f [] = or-false (f .priced)
-found-priced lowest highest f (x ∷ l) =
-    found-priced lowest highest (with-pair lowest highest f (price-of (x .price)) (quantity-of (x .quantity))) l
-    ∙ or-assoc (f .priced) (is-priced-blank x) (any-pair is-priced-blank l)
+walked-priced : (f : Findings) (l : List Pair) → walked f l .priced ≡ (f .priced || any-pair is-priced-blank l)
+unfolding any-pair is-priced-blank is-blank
+walked-priced f [] = or-false (f .priced)
+walked-priced f (x ∷ l) =
+    let p = price-of (x .price) in
+    let q = quantity-of (x .quantity) in
+    walked-priced (with-pair f p q) l ∙ priced-on f p q (blank q) (any-pair is-priced-blank l)
 
 -- ---- 13: the prices of pairs that aren't blank
 
@@ -65,31 +122,65 @@ unfolding rises
 rises-none true last = refl
 rises-none false last = refl
 
--- one pair, blank or not
-rises-on : (r any : Bool) (last : Price) (b : Bool) (p : Price) (ps : List ℤ)
-    → (still-rises r any last b p && rises-after (any || not b) (cond b last p .0) ps) ≡ (r && rises-after any (last .0) (cond b ps (p .0 ∷ ps)))
+rises-past : (r any : Bool) (last p : Price) (ps : List ℤ)
+    → (still-rises r any last p && rises (p .0 ∷ ps)) ≡ (r && rises-after any (last .0) (p .0 ∷ ps))
 unfolding still-rises rises
-rises-on false any last b p ps = refl
-rises-on true true last true p ps = refl
-rises-on true true last false p ps = refl
-rises-on true false last true p ps = refl
-rises-on true false last false p ps = refl
+rises-past false any last p ps = refl
+rises-past true true last p ps = refl
+rises-past true false last p ps = refl
 
-found-rises : (lowest highest : Price) (f : Findings) (l : List Pair)
-    → found-from lowest highest f l .rises ≡ (f .rises && rises-after (f .any) (f .last .0) (non-blank-prices l))
-unfolding found-from with-pair non-blank-prices is-blank
-found-rises lowest highest f [] = and-true (f .rises) ∙ ap (λ (t : Bool). f .rises && t) (rises-none (f .any) (f .last .0))
-found-rises lowest highest f (x ∷ l) =
-    found-rises lowest highest (with-pair lowest highest f (price-of (x .price)) (quantity-of (x .quantity))) l
-    ∙ rises-on (f .rises) (f .any) (f .last) (is-blank x) (price-of (x .price)) (non-blank-prices l)
+rises-on : (f : Findings) (p : Price) (q : Quantity) (b : Bool) (ps : List ℤ)
+    → let g = cond b (with-blank f p) (with-filled f p q) in
+    (g .rises && rises-after (g .any) (g .last .0) ps) ≡ (f .rises && rises-after (f .any) (f .last .0) (cond b ps (p .0 ∷ ps)))
+unfolding with-blank with-filled
+rises-on f p q true ps = refl
+rises-on f p q false ps = rises-past (f .rises) (f .any) (f .last) p ps
 
--- ---- the three, of all the pairs
+walked-rises : (f : Findings) (l : List Pair) → walked f l .rises ≡ (f .rises && rises-after (f .any) (f .last .0) (non-blank-prices l))
+unfolding non-blank-prices is-blank
+walked-rises f [] = and-true (f .rises) ∙ ap (λ (t : Bool). f .rises && t) (rises-none (f .any) (f .last .0))
+walked-rises f (x ∷ l) =
+    let p = price-of (x .price) in
+    let q = quantity-of (x .quantity) in
+    walked-rises (with-pair f p q) l ∙ rises-on f p q (blank q) (non-blank-prices l)
 
-pub found-are : (limits : List ℤ) (s : ℕ) (l : List Pair)
-    → let f = found-in (price-of (lowest-price limits s)) (price-of (highest-price limits s)) l in
-    (f .outside ≡ any-pair (pair-out-of-range limits s) l) × (f .priced ≡ any-pair is-priced-blank l) × (f .rises ≡ rises (non-blank-prices l))
-found-are limits s l = (
-  found-outside limits s none-yet l,
-  found-priced (price-of (lowest-price limits s)) (price-of (highest-price limits s)) none-yet l,
-  found-rises (price-of (lowest-price limits s)) (price-of (highest-price limits s)) none-yet l,
-)
+-- ---- the total
+
+zero-blank : (z : ℤ) → eqZ z (pos 0) ≡ true → z ≡ pos 0
+zero-blank (pos n) h = ap pos (eqb-true n 0 h)
+zero-blank (negsuc n) h = absurd (subst T (sym h) tt)
+
+total-on : (f : Findings) (p : Price) (q : Quantity) (b : Bool) (s : ℤ) → blank q ≡ b
+    → cond b (with-blank f p) (with-filled f p q) .total .0 +ℤ s ≡ f .total .0 +ℤ (q .0 +ℤ s)
+unfolding with-blank with-filled
+total-on f p q true s h = rw (zero-blank (q .0) h, +ℤ-idl s)
+total-on f p q false s h = +ℤ-assoc (f .total .0) (q .0) s
+
+walked-total : (f : Findings) (l : List Pair) → walked f l .total .0 ≡ f .total .0 +ℤ sum-of l
+unfolding sum-of
+walked-total f [] = sym (+ℤ-idr (f .total .0))
+walked-total f (x ∷ l) =
+    let p = price-of (x .price) in
+    let q = quantity-of (x .quantity) in
+    walked-total (with-pair f p q) l ∙ total-on f p q (blank q) (sum-of l) refl
+
+pub total-grows : (f : Findings) (p : Price) (q : Quantity) (b : Bool)
+    → natAbs (cond b (with-blank f p) (with-filled f p q) .total .0) ≤ natAbs (f .total .0) + natAbs (q .0)
+unfolding with-blank with-filled
+total-grows f p q true = omega arith
+total-grows f p q false = abs-add (f .total .0) (q .0)
+
+-- ---- all, of the pairs of an offer
+
+pub found-outside-is : (limits : List ℤ) (s : ℕ) (l : List Pair)
+    → found-in (price-of (lowest-price limits s)) (price-of (highest-price limits s)) l .outside ≡ any-pair (pair-out-of-range limits s) l
+found-outside-is limits s l = found-outside limits s none-yet l refl
+
+pub found-are : (limits : List ℤ) (s : ℕ) (l : List Pair) → let f = found-in (price-of (lowest-price limits s)) (price-of (highest-price limits s)) l in
+    f .outside ≡ false → (f .priced ≡ any-pair is-priced-blank l) × (f .rises ≡ rises (non-blank-prices l)) × (f .total .0 ≡ sum-of l)
+found-are limits s l h =
+    let e = found-walked limits s none-yet l (sym (found-outside-is limits s l) ∙ h) in (
+      ap (λ (f : Findings). f .priced) e ∙ walked-priced none-yet l,
+      ap (λ (f : Findings). f .rises) e ∙ walked-rises none-yet l,
+      ap (λ (f : Findings). f .total .0) e ∙ walked-total none-yet l ∙ +ℤ-idl (sum-of l),
+    )

@@ -14,7 +14,6 @@ use capability::is_proportion_refused;
 use capability::is_ramp_refused;
 use pairs::findings_of;
 pub use pairs::sum_of;
-use pairs::total_of;
 use units::first;
 use units::is_beyond;
 use units::nat;
@@ -37,7 +36,7 @@ pub fn is_period_refused(clock: u64, period: i32) -> bool
     (30 * p <= clock) | (48 * (day + 7) <= p)
 }
 
-// ---- 11 to 16, then 10 to 16
+// ---- 11 to 16, then 10 to 16; each returns at the first that applies
 
 pub fn offer_number(
     limits: &[i32],
@@ -50,17 +49,22 @@ pub fn offer_number(
     ensures { λ r. ⌜ (r ≡ offer-number (now (limits .entry)) (now (capability .entry)) service reason (now (offer .entry))) × (r ≤ 16) ⌝ }
 {
     let f = findings_of(limits, service, offer);
-    let total = total_of(&offer[3..]);
-    let from16 = first(is_above_capacity(capability, service, total), 16, 0);
-    let from15 = first(
-        is_proportion_refused(capability, service, offer),
-        15,
-        from16,
-    );
-    let from14 = first(is_ramp_refused(capability, service, offer), 14, from15);
-    let from13 = first(!f.rises, 13, from14);
-    let from12 = first(f.priced, 12, from13);
-    first((6 < reason) | f.outside, 11, from12)
+    if (6 < reason) | f.outside {
+        return 11;
+    }
+    if f.priced {
+        return 12;
+    }
+    if !f.rises {
+        return 13;
+    }
+    if is_ramp_refused(capability, service, offer) {
+        return 14;
+    }
+    if is_proportion_refused(capability, service, offer) {
+        return 15;
+    }
+    first(is_above_capacity(capability, service, f.total), 16, 0)
 }
 
 // A standing offer carries no reason.
@@ -74,11 +78,10 @@ pub fn standing_number(
     requires { ⌜ (length (now limits) ≡ 6) × (length (now capability) ≡ 17) × (service ≤ 4) × (length (now offer) ≡ 23) ⌝ }
     ensures { λ r. ⌜ (r ≡ standing-rules (now (limits .entry)) (now (capability .entry)) service slot (now (offer .entry))) × (r ≤ 16) ⌝ }
 {
-    first(
-        is_slot_refused(slot),
-        10,
-        offer_number(limits, capability, service, 0, offer),
-    )
+    if is_slot_refused(slot) {
+        return 10;
+    }
+    offer_number(limits, capability, service, 0, offer)
 }
 
 pub fn variation_number(
@@ -93,9 +96,8 @@ pub fn variation_number(
     requires { ⌜ (length (now limits) ≡ 6) × (length (now capability) ≡ 17) × (service ≤ 4) × (length (now offer) ≡ 23) ⌝ }
     ensures { λ r. ⌜ (r ≡ variation-rules clock (now (limits .entry)) (now (capability .entry)) service period reason (now (offer .entry))) × (r ≤ 16) ⌝ }
 {
-    first(
-        is_period_refused(clock, period),
-        10,
-        offer_number(limits, capability, service, reason, offer),
-    )
+    if is_period_refused(clock, period) {
+        return 10;
+    }
+    offer_number(limits, capability, service, reason, offer)
 }

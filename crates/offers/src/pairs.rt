@@ -1,13 +1,12 @@
 // The pairs of an offer: ten quantities added, and the tests of refusals 11 to 13.
 // Prices and quantities have types of their own, so that neither is taken for the other.
 ghost use mathlib.Core.Path.{_≡_};
-ghost use mathlib.Core.Bool.{cond};
 ghost use Prim.Native.Nat.{_≤_};
 ghost use lib.IntN.{natAbs, _+ℤ_};
 ghost use lib.ListN.{length};
-ghost use Rattle.offer_rules.specs.Offer.{pairs-in, pairs, sum-of, lowest-price, highest-price, any-pair, pair-out-of-range, is-priced-blank, non-blank-prices, rises};
+ghost use Rattle.offer_rules.specs.Offer.{pairs-in, pairs, sum-of, lowest-price, highest-price};
 ghost use Rattle.units.specs.Typed.{price-of};
-ghost use Rattle.offers.specs.PairTests.{pair-of, blank, outside, still-rises, with-pair, found-in};
+ghost use Rattle.offers.specs.PairTests.{blank, outside, still-rises, with-blank, with-filled, with-pair, found-in};
 use units::Price;
 use units::Quantity;
 use units::is_beyond;
@@ -60,57 +59,68 @@ pub fn is_out_of_range(lowest: Price, highest: Price, price: Price, quantity: Qu
     is_beyond(0, 99999, quantity.0) | is_beyond(lowest.0, highest.0, price.0)
 }
 
-// 12 "blank pair with a price"
-pub fn is_priced_blank(price: Price, quantity: Quantity) -> bool
-    ensures { λ r. ⌜ r ≡ is-priced-blank (pair-of price quantity) ⌝ }
-{
-    is_blank(quantity) & !is_zero(price.0)
-}
-
 // 13 "prices of non-blank pairs not strictly rising": `any` says whether there is a price before, and `last` is that price.
-pub fn still_rises(rises: bool, any: bool, last: Price, blank: bool, price: Price) -> bool
-    ensures { λ r. ⌜ r ≡ still-rises rises any last blank price ⌝ }
+pub fn still_rises(rises: bool, any: bool, last: Price, price: Price) -> bool
+    ensures { λ r. ⌜ r ≡ still-rises rises any last price ⌝ }
 {
-    rises & (blank | (!any | (last.0 < price.0)))
-}
-
-// The price that the next one is held against: a blank's is none.
-fn last_price(blank: bool, last: Price, price: Price) -> Price
-    ensures { λ r. ⌜ r ≡ cond blank last price ⌝ }
-{
-    if blank { last } else { price }
+    rises & (!any | (last.0 < price.0))
 }
 
 // What the pairs up to some place have shown; `last` is the price of the last that isn't blank, if there is any.
+// Where a pair is outside, nothing else is told.
 pub struct Findings {
     pub outside: bool,
     pub priced: bool,
     pub rises: bool,
     pub any: bool,
     pub last: Price,
+    pub total: Sum,
 }
 
-// One pair more.
-fn with_pair(
-    f: Findings,
-    lowest: Price,
-    highest: Price,
-    price: Price,
-    quantity: Quantity,
-) -> Findings
-    ensures { λ r. ⌜ r ≡ with-pair lowest highest f price quantity ⌝ }
+// 12 "blank pair with a price"
+fn with_blank(f: Findings, price: Price) -> Findings
+    ensures { λ r. ⌜ r ≡ with-blank f price ⌝ }
 {
-    let blank = is_blank(quantity);
     let last = f.last;
+    let total = f.total;
     Findings {
-        outside: f.outside | is_out_of_range(lowest, highest, price, quantity),
-        priced: f.priced | is_priced_blank(price, quantity),
-        rises: still_rises(f.rises, f.any, last, blank, price),
-        any: f.any | !blank,
-        last: last_price(blank, last, price),
+        outside: f.outside,
+        priced: f.priced | !is_zero(price.0),
+        rises: f.rises,
+        any: f.any,
+        last,
+        total,
     }
 }
 
+fn with_filled(f: Findings, price: Price, quantity: Quantity) -> Findings
+    requires { ⌜ natAbs (f .total .0) ≤ 4611686018427387904 ⌝ }
+    ensures { λ r. ⌜ r ≡ with-filled f price quantity ⌝ }
+{
+    let last = f.last;
+    let total = f.total;
+    Findings {
+        outside: f.outside,
+        priced: f.priced,
+        rises: still_rises(f.rises, f.any, last, price),
+        any: true,
+        last: price,
+        total: plus(total, quantity),
+    }
+}
+
+// One pair more. A branch, since most pairs of an offer go one way: the same without one takes twice as long.
+fn with_pair(f: Findings, price: Price, quantity: Quantity) -> Findings
+    requires { ⌜ natAbs (f .total .0) ≤ 4611686018427387904 ⌝ }
+    ensures { λ r. ⌜ r ≡ with-pair f price quantity ⌝ }
+{
+    if is_blank(quantity) {
+        return with_blank(f, price);
+    }
+    with_filled(f, price, quantity)
+}
+
+// The walk ends at the first pair that 11 refuses: no number below 11 is left to be drawn from pairs.
 fn findings_in(lowest: Price, highest: Price, pairs: &[i32]) -> Findings
     requires { ⌜ length (now pairs) ≡ 20 ⌝ }
     ensures { λ r. ⌜ r ≡ found-in lowest highest (pairs-in (now (pairs .entry))) ⌝ }
@@ -121,15 +131,22 @@ fn findings_in(lowest: Price, highest: Price, pairs: &[i32]) -> Findings
         rises: true,
         any: false,
         last: Price(0),
+        total: Sum(0),
     };
     for i in 0..10usize {
-        f = with_pair(
-            f,
-            lowest,
-            highest,
-            price_at(pairs, 2 * i),
-            quantity_at(pairs, 2 * i + 1),
-        );
+        let price = price_at(pairs, 2 * i);
+        let quantity = quantity_at(pairs, 2 * i + 1);
+        if is_out_of_range(lowest, highest, price, quantity) {
+            return Findings {
+                outside: true,
+                priced: false,
+                rises: true,
+                any: false,
+                last: Price(0),
+                total: Sum(0),
+            };
+        }
+        f = with_pair(f, price, quantity);
     }
     f
 }
@@ -155,7 +172,7 @@ fn highest_price(limits: &[i32], service: u8) -> Price
 
 pub fn findings_of(limits: &[i32], service: u8, offer: &[i32]) -> Findings
     requires { ⌜ (length (now limits) ≡ 6) × (service ≤ 4) × (length (now offer) ≡ 23) ⌝ }
-    ensures { λ r. ⌜ (r .outside ≡ any-pair (pair-out-of-range (now (limits .entry)) service) (pairs (now (offer .entry)))) × (r .priced ≡ any-pair is-priced-blank (pairs (now (offer .entry)))) × (r .rises ≡ rises (non-blank-prices (pairs (now (offer .entry))))) ⌝ }
+    ensures { λ r. ⌜ r ≡ found-in (price-of (lowest-price (now (limits .entry)) service)) (price-of (highest-price (now (limits .entry)) service)) (pairs (now (offer .entry))) ⌝ }
 {
     findings_in(
         lowest_price(limits, service),

@@ -1,7 +1,6 @@
-use mathlib.Core.Path.{_≡_, ap, _∙_}
-use Rattle.offer_rules.specs.Offer.{sum-of, out-of-range, above-capacity, offer-number}
-use Rattle.offers.proofs.Pairing.{pairs-lent}
-use Rattle.offers.proofs.Picks.{number-picked, number-at-most}
+use mathlib.Core.Path.{_≡_, sym, _∙_}
+use Rattle.offer_rules.specs.Offer.{offer-number}
+use Rattle.offers.proofs.Picks.{eleven-found, number-found, number-at-most}
 use borrow.Author.Needs.{needs}
 use Rattle.offers.proofs.offer_number.Statement.{statement}
 use Rattle.offers.proofs.offer_number.Tie as tie
@@ -9,17 +8,75 @@ use Rattle.offers.proofs.offer_number.Tie as tie
 findings-of-requires : tie.Need-findings-of-requires
 findings-of-requires c κs = search needs
 
-sub-total-of : tie.Need-sub-total-of
-sub-total-of c = search needs
+draws-11 : (c : tie.Then1) → let s = c .before .before .before in offer-number (s .args .limits .now) (s .args .capability .now) (s .args .service) (s .args .reason) (s .args .offer .now) ≡ 11
+draws-11 c =
+    let s = c .before .before .before in
+    let f = c .before .before .findings-of in
+    eleven-found (s .args .limits .now) (s .args .capability .now) (s .args .service) (s .args .reason) (s .args .offer .now) (f .result) (f .ensures) (c .if1 .taken)
 
-part-total-of-start : tie.Need-part-total-of-start
-part-total-of-start c = search needs
+returns : tie.Need-returns
+returns c = let s = c .before .before .before in (sym (draws-11 c), rw (← draws-11 c) (number-at-most (s .args .limits .now) (s .args .capability .now) (s .args .service) (s .args .reason) (s .args .offer .now)))
 
-part-total-of-end : tie.Need-part-total-of-end
-part-total-of-end c = search needs
+draws-12 : (c : tie.Then2) → let s = c .before .before .before .before in offer-number (s .args .limits .now) (s .args .capability .now) (s .args .service) (s .args .reason) (s .args .offer .now) ≡ 12
+draws-12 c =
+    let s = c .before .before .before .before in
+    let f = c .before .before .before .findings-of in
+    number-found (s .args .limits .now) (s .args .capability .now) (s .args .service) (s .args .reason) (s .args .offer .now) (f .result) (f .ensures) (c .before .if1 .left)
+    ∙ rw (c .if2 .taken)
 
-total-of-requires : tie.Need-total-of-requires
-total-of-requires c κs = search needs
+returns-2 : tie.Need-returns-2
+returns-2 c = let s = c .before .before .before .before in (sym (draws-12 c), rw (← draws-12 c) (number-at-most (s .args .limits .now) (s .args .capability .now) (s .args .service) (s .args .reason) (s .args .offer .now)))
+
+draws-13 : (c : tie.Then3) → let s = c .before .before .before .before .before .before in offer-number (s .args .limits .now) (s .args .capability .now) (s .args .service) (s .args .reason) (s .args .offer .now) ≡ 13
+draws-13 c =
+    let s = c .before .before .before .before .before .before in
+    let f = c .before .before .before .before .before .findings-of in
+    number-found (s .args .limits .now) (s .args .capability .now) (s .args .service) (s .args .reason) (s .args .offer .now) (f .result) (f .ensures) (c .before .before .before .if1 .left)
+    ∙ rw (
+      c .before .before .if2 .left,
+      c .if3 .taken,
+    )
+
+returns-3 : tie.Need-returns-3
+returns-3 c = let s = c .before .before .before .before .before .before in (sym (draws-13 c), rw (← draws-13 c) (number-at-most (s .args .limits .now) (s .args .capability .now) (s .args .service) (s .args .reason) (s .args .offer .now)))
+
+is-ramp-refused-requires : tie.Need-is-ramp-refused-requires
+is-ramp-refused-requires c κs = search needs
+
+draws-14 : (c : tie.Then4) → let s = c .before .before .before .before .before .before .before .before in offer-number (s .args .limits .now) (s .args .capability .now) (s .args .service) (s .args .reason) (s .args .offer .now) ≡ 14
+draws-14 c =
+    let s = c .before .before .before .before .before .before .before .before in
+    let f = c .before .before .before .before .before .before .before .findings-of in
+    number-found (s .args .limits .now) (s .args .capability .now) (s .args .service) (s .args .reason) (s .args .offer .now) (f .result) (f .ensures) (c .before .before .before .before .before .if1 .left)
+    ∙ rw (
+      c .before .before .before .before .if2 .left,
+      c .before .before .if3 .left,
+      ← c .before .is-ramp-refused .ensures,
+      c .if4 .taken,
+    )
+
+returns-4 : tie.Need-returns-4
+returns-4 c = let s = c .before .before .before .before .before .before .before .before in (sym (draws-14 c), rw (← draws-14 c) (number-at-most (s .args .limits .now) (s .args .capability .now) (s .args .service) (s .args .reason) (s .args .offer .now)))
+
+is-proportion-refused-requires : tie.Need-is-proportion-refused-requires
+is-proportion-refused-requires c κs = search needs
+
+draws-15 : (c : tie.Then5) → let s = c .before .before .before .before .before .before .before .before .before .before in offer-number (s .args .limits .now) (s .args .capability .now) (s .args .service) (s .args .reason) (s .args .offer .now) ≡ 15
+draws-15 c =
+    let s = c .before .before .before .before .before .before .before .before .before .before in
+    let f = c .before .before .before .before .before .before .before .before .before .findings-of in
+    number-found (s .args .limits .now) (s .args .capability .now) (s .args .service) (s .args .reason) (s .args .offer .now) (f .result) (f .ensures) (c .before .before .before .before .before .before .before .if1 .left)
+    ∙ rw (
+      c .before .before .before .before .before .before .if2 .left,
+      c .before .before .before .before .if3 .left,
+      ← c .before .before .before .is-ramp-refused .ensures,
+      c .before .before .if4 .left,
+      ← c .before .is-proportion-refused .ensures,
+      c .if5 .taken,
+    )
+
+returns-5 : tie.Need-returns-5
+returns-5 c = let s = c .before .before .before .before .before .before .before .before .before .before in (sym (draws-15 c), rw (← draws-15 c) (number-at-most (s .args .limits .now) (s .args .capability .now) (s .args .service) (s .args .reason) (s .args .offer .now)))
 
 is-above-capacity-requires : tie.Need-is-above-capacity-requires
 is-above-capacity-requires c κs = search needs
@@ -27,77 +84,37 @@ is-above-capacity-requires c κs = search needs
 first-requires : tie.Need-first-requires
 first-requires c κs = search needs
 
-is-proportion-refused-requires : tie.Need-is-proportion-refused-requires
-is-proportion-refused-requires c κs = search needs
-
-first-requires-2 : tie.Need-first-requires-2
-first-requires-2 c κs = search needs
-
-is-ramp-refused-requires : tie.Need-is-ramp-refused-requires
-is-ramp-refused-requires c κs = search needs
-
-first-requires-3 : tie.Need-first-requires-3
-first-requires-3 c κs = search needs
-
-first-requires-4 : tie.Need-first-requires-4
-first-requires-4 c κs = search needs
-
-first-requires-5 : tie.Need-first-requires-5
-first-requires-5 c κs = search needs
-
-first-requires-6 : tie.Need-first-requires-6
-first-requires-6 c κs = search needs
-
--- each test as the code ran it
-number : (c : tie.After-first6) →
-    let s = c .before .before .before .before .before .before .before .before .before .before .before .before .before .before in
-    c .first6 .result ≡ offer-number (s .args .limits .now) (s .args .capability .now) (s .args .service) (s .args .reason) (s .args .offer .now)
-unfolding out-of-range
-number c =
-    let x3 = c .before .before .before .before .before in
-    let x2 = x3 .before .before in
-    let x1 = x2 .before .before in
-    let t = x1 .before .before in
-    let f = t .before .before in
-    let s = f .before in
-    let o = s .args .offer .now in
-    rw (
-      number-picked (s .args .limits .now) (s .args .capability .now) (s .args .service) (s .args .reason) o,
-      ← f .findings-of .ensures .0,
-      ← f .findings-of .ensures .1,
-      ← f .findings-of .ensures .2,
-      ← x3 .before .is-ramp-refused .ensures,
-      ← x2 .before .is-proportion-refused .ensures,
-      ← (x1 .before .is-above-capacity .ensures ∙ ap (above-capacity (s .args .capability .now) (s .args .service)) (t .total-of .ensures .0 ∙ ap sum-of (pairs-lent o))),
-      ← x1 .first .ensures,
-      ← x2 .first2 .ensures,
-      ← x3 .first3 .ensures,
-      ← c .before .before .before .first4 .ensures,
-      ← c .before .before .first5 .ensures,
+draws-16-or-none : (c : tie.After-first) → let s = c .before .before .before .before .before .before .before .before .before .before .before .before in offer-number (s .args .limits .now) (s .args .capability .now) (s .args .service) (s .args .reason) (s .args .offer .now) ≡ c .first .result
+draws-16-or-none c =
+    let s = c .before .before .before .before .before .before .before .before .before .before .before .before in
+    let f = c .before .before .before .before .before .before .before .before .before .before .before .findings-of in
+    number-found (s .args .limits .now) (s .args .capability .now) (s .args .service) (s .args .reason) (s .args .offer .now) (f .result) (f .ensures) (c .before .before .before .before .before .before .before .before .before .if1 .left)
+    ∙ rw (
+      c .before .before .before .before .before .before .before .before .if2 .left,
+      c .before .before .before .before .before .before .if3 .left,
+      ← c .before .before .before .before .before .is-ramp-refused .ensures,
+      c .before .before .before .before .if4 .left,
+      ← c .before .before .before .is-proportion-refused .ensures,
+      c .before .before .if5 .left,
+      ← c .before .is-above-capacity .ensures,
+      ← c .first .ensures,
     )
-    (c .first6 .ensures)
 
-returns : tie.Need-returns
-returns c =
-    let s = c .before .before .before .before .before .before .before .before .before .before .before .before .before .before in
-    (number c, rw (number c) (number-at-most (s .args .limits .now) (s .args .capability .now) (s .args .service) (s .args .reason) (s .args .offer .now)))
+returns-6 : tie.Need-returns-6
+returns-6 c = let s = c .before .before .before .before .before .before .before .before .before .before .before .before in (sym (draws-16-or-none c), rw (← draws-16-or-none c) (number-at-most (s .args .limits .now) (s .args .capability .now) (s .args .service) (s .args .reason) (s .args .offer .now)))
 
 pub offer-number-spec : {M : Type 1} → statement M
 offer-number-spec =
     tie.close
     (tie.spec
     findings-of-requires
-    sub-total-of
-    part-total-of-start
-    part-total-of-end
-    total-of-requires
+    returns
+    returns-2
+    returns-3
+    is-ramp-refused-requires
+    returns-4
+    is-proportion-refused-requires
+    returns-5
     is-above-capacity-requires
     first-requires
-    is-proportion-refused-requires
-    first-requires-2
-    is-ramp-refused-requires
-    first-requires-3
-    first-requires-4
-    first-requires-5
-    first-requires-6
-    returns)
+    returns-6)

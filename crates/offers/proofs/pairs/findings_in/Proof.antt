@@ -1,22 +1,27 @@
 use borrow.Author.Needs.{needs}
 use native.Mathlib.Omega.{arith}
-use mathlib.Core.Path.{_≡_, refl, sym, _∙_}
-use Prim.Native.Nat.{_≤_, _*_, _-_}
+use mathlib.Core.Path.{_≡_, refl, sym, ap, _∙_}
+use Prim.Native.Nat.{_≤_, _*_, _-_, _+_}
 use lib.ListN.{drop}
+use lib.IntN.{natAbs}
+use lib.Signed.{natAbs-le}
+use mir.Syntax.{w32}
+use mir.Val.{SFits}
 use Rattle.offer_rules.specs.Offer.{pairs-in}
-use Rattle.offers.specs.PairTests.{found-from, found-in}
-use Rattle.offers.proofs.Walks.{found-turn, found-whole}
+use Rattle.offers.specs.PairTests.{blank, found-from, found-in}
+use Rattle.offers.proofs.Walks.{found-ends, found-goes-on, found-whole, total-grows}
 use Rattle.offers.proofs.pairs.findings_in.Statement.{statement}
 use Rattle.offers.proofs.pairs.findings_in.Tie as tie
 
 abbrev Inv-loop : tie.InvT-loop
-Inv-loop lowest highest pairs f₀ i₀ f i = (i ≤ 10) × (found-from lowest highest f (pairs-in (drop (2 * i) pairs)) ≡ found-in lowest highest (pairs-in pairs))
+Inv-loop lowest highest pairs f₀ i₀ f i =
+    (i ≤ 10) × (natAbs (f .total .0) ≤ i * 2147483648) × (found-from lowest highest f (pairs-in (drop (2 * i) pairs)) ≡ found-in lowest highest (pairs-in pairs))
 
 abbrev μ-loop : tie.MeasureT-loop
 μ-loop lowest highest pairs f₀ i₀ f i = 10 - i
 
 loop-holds : tie.Need-loop-holds Inv-loop μ-loop
-loop-holds c = (omega arith, refl)
+loop-holds c = (omega arith, omega arith, refl)
 
 mul-price-at : tie.Need-mul-price-at Inv-loop μ-loop
 mul-price-at c = search needs
@@ -33,6 +38,17 @@ add-quantity-at c = search needs
 quantity-at-requires : tie.Need-quantity-at-requires Inv-loop μ-loop
 quantity-at-requires c κs = search needs
 
+is-out-of-range-requires : tie.Need-is-out-of-range-requires Inv-loop μ-loop
+is-out-of-range-requires c κs = search needs
+
+returns : tie.Need-returns Inv-loop μ-loop
+returns c =
+    let l = c .before .before .before .before .before in
+    let p = c .before .before .before .price-at in
+    let q = c .before .before .quantity-at in
+    sym (found-ends (l .before .args .lowest) (l .before .args .highest) (l .loop .f) (l .before .args .pairs .now) (l .loop .i) (p .result) (q .result) (omega arith) (p .ensures) (q .ensures) (sym (c .before .is-out-of-range .ensures) ∙ c .if1 .taken))
+    ∙ l .loop .inv .2
+
 with-pair-requires : tie.Need-with-pair-requires Inv-loop μ-loop
 with-pair-requires c κs = search needs
 
@@ -44,21 +60,21 @@ loop-less c = search needs
 
 loop-again : tie.Need-loop-again Inv-loop μ-loop
 loop-again c =
-    let l = c .before .before .before .before in (
+    let l = c .before .before .before .before .before .before in
+    let p = c .before .before .before .before .price-at in
+    let q = c .before .before .before .quantity-at in
+    let f : SFits w32 (q .result .0) = search needs in (
       omega arith,
-      rw (
-        c .with-pair .ensures,
-        c .before .before .price-at .ensures,
-        c .before .quantity-at .ensures,
-        ← found-turn (l .before .args .lowest) (l .before .args .highest) (l .loop .f) (l .before .args .pairs .now) (l .loop .i) (omega arith),
-      )
-          (l .loop .inv .1),
+      rw (c .with-pair .ensures) (omega (arith, total-grows (l .loop .f) (p .result) (q .result) (blank (q .result)), natAbs-le (q .result .0) (f .sfits))),
+      ap (λ g. found-from (l .before .args .lowest) (l .before .args .highest) g (pairs-in (drop (2 * (l .loop .i + 1)) (l .before .args .pairs .now)))) (c .with-pair .ensures)
+          ∙ sym (found-goes-on (l .before .args .lowest) (l .before .args .highest) (l .loop .f) (l .before .args .pairs .now) (l .loop .i) (p .result) (q .result) (omega arith) (p .ensures) (q .ensures) (sym (c .before .before .is-out-of-range .ensures) ∙ c .before .if1 .left))
+          ∙ l .loop .inv .2,
     )
 
-returns : tie.Need-returns Inv-loop μ-loop
-returns c =
+returns-2 : tie.Need-returns-2 Inv-loop μ-loop
+returns-2 c =
     let l = c .before in
-    sym (found-whole (l .before .args .lowest) (l .before .args .highest) (l .loop .f) (l .before .args .pairs .now) (2 * l .loop .i) (omega arith)) ∙ l .loop .inv .1
+    sym (found-whole (l .before .args .lowest) (l .before .args .highest) (l .loop .f) (l .before .args .pairs .now) (2 * l .loop .i) (omega arith)) ∙ l .loop .inv .2
 
 pub findings-in-spec : {M : Type 1} → statement M
 findings-in-spec =
@@ -72,8 +88,10 @@ findings-in-spec =
     mul-quantity-at
     add-quantity-at
     quantity-at-requires
+    is-out-of-range-requires
+    returns
     with-pair-requires
     add-i
     loop-less
     loop-again
-    returns)
+    returns-2)

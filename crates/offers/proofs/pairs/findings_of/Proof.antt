@@ -1,9 +1,4 @@
-use mathlib.Core.Path.{_≡_}
-use Rattle.offer_rules.specs.Offer.{pairs, lowest-price, highest-price}
-use Rattle.units.specs.Typed.{price-of}
-use Rattle.offers.specs.PairTests.{found-in}
 use Rattle.offers.proofs.Pairing.{pairs-lent}
-use Rattle.offers.proofs.Walks.{found-are}
 use borrow.Author.Needs.{needs}
 use Rattle.offers.proofs.pairs.findings_of.Statement.{statement}
 use Rattle.offers.proofs.pairs.findings_of.Tie as tie
@@ -29,10 +24,7 @@ findings-in-requires c κs = search needs
 returns : tie.Need-returns
 returns c =
     let s = c .before .before .before .before in
-    let limits = s .args .limits .now in
-    let e : c .findings-in .result ≡ found-in (price-of (lowest-price limits (s .args .service))) (price-of (highest-price limits (s .args .service))) (pairs (s .args .offer .now)) =
-    rw (c .findings-in .ensures, c .before .before .before .lowest-price .ensures, c .before .before .highest-price .ensures, pairs-lent (s .args .offer .now)) in
-    rw e (found-are limits (s .args .service) (pairs (s .args .offer .now)))
+    rw (c .findings-in .ensures, c .before .before .before .lowest-price .ensures, c .before .before .highest-price .ensures, pairs-lent (s .args .offer .now))
 
 pub findings-of-spec : {M : Type 1} → statement M
 findings-of-spec =

@@ -1,0 +1,17 @@
+use borrow.Author.Needs.{needs}
+use Rattle.offers.specs.PairTests.{with-filled}
+use Rattle.offers.proofs.pairs.with_filled.Statement.{statement}
+use Rattle.offers.proofs.pairs.with_filled.Tie as tie
+
+still-rises-requires : tie.Need-still-rises-requires
+still-rises-requires c κs = search needs
+
+plus-requires : tie.Need-plus-requires
+plus-requires c κs = search needs
+
+returns : tie.Need-returns
+unfolding with-filled
+returns c = rw (← c .before .still-rises .ensures, ← c .plus .ensures)
+
+pub with-filled-spec : {M : Type 1} → statement M
+with-filled-spec = tie.close (tie.spec still-rises-requires plus-requires returns)
