@@ -24,7 +24,6 @@ use gate::Grounds;
 use gate::Window;
 use gate::gate_refuses;
 use refusals::draw_if;
-use refusals::first_drawn;
 use units::nat;
 
 // Head words.
@@ -147,18 +146,22 @@ fn standing_rules_number(book: &[i32], f: usize, service: u8, slot: i32, offer: 
     requires { ⌜ Usable (now book) × (f < facilities-in (now book)) × (service < services-in (now book)) × (length (now offer) ≡ 23) ⌝ }
     ensures { λ r. ⌜ (r ≡ (facility-number (part (facility-place f) 17 (now (book .entry))) then registration-number (part (facility-place f) 17 (now (book .entry))) service then standing-rules (part limits-place 6 (now (book .entry))) (part (facility-place f) 17 (now (book .entry))) service slot (now (offer .entry)))) × (r ≤ 16) ⌝ }
 {
+    let kind = kind_number(book, f);
+    if kind != 0 {
+        return kind;
+    }
+    let mark = mark_number(book, f, service);
+    if mark != 0 {
+        return mark;
+    }
     let at = FACILITIES + FACILITY * f;
     let end = at + CAPABILITY;
-    let rules = offers::standing_number(
+    offers::standing_number(
         &book[LIMITS..LIMITS_END],
         &book[at..end],
         service,
         slot,
         offer,
-    );
-    first_drawn(
-        kind_number(book, f),
-        first_drawn(mark_number(book, f, service), rules),
     )
 }
 
@@ -290,9 +293,17 @@ fn variation_rules_number(
     requires { ⌜ Usable (now book) × (f < facilities-in (now book)) × (service < services-in (now book)) × (length (now offer) ≡ 23) ⌝ }
     ensures { λ r. ⌜ (r ≡ (facility-number (part (facility-place f) 17 (now (book .entry))) then registration-number (part (facility-place f) 17 (now (book .entry))) service then variation-rules (toNat (word (now (book .entry)) clock-place)) (part limits-place 6 (now (book .entry))) (part (facility-place f) 17 (now (book .entry))) service period reason (now (offer .entry)))) × (r ≤ 16) ⌝ }
 {
+    let kind = kind_number(book, f);
+    if kind != 0 {
+        return kind;
+    }
+    let mark = mark_number(book, f, service);
+    if mark != 0 {
+        return mark;
+    }
     let at = FACILITIES + FACILITY * f;
     let end = at + CAPABILITY;
-    let rules = offers::variation_number(
+    offers::variation_number(
         clock(book),
         &book[LIMITS..LIMITS_END],
         &book[at..end],
@@ -300,10 +311,6 @@ fn variation_rules_number(
         period,
         reason,
         offer,
-    );
-    first_drawn(
-        kind_number(book, f),
-        first_drawn(mark_number(book, f, service), rules),
     )
 }
 
