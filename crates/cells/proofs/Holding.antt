@@ -3,19 +3,19 @@ use mathlib.Core.Path.{_≡_, refl, sym, ap, ap₂, _∙_}
 use mathlib.Core.Bool.{cond}
 use mathlib.Core.List.{List, [], _∷_}
 use mathlib.Core.Option.{Option, none, some}
-use Prim.Native.Nat.{ℕ, _+_, _-_, _≤_}
+use Prim.Native.Nat.{ℕ, suc, _+_, _-_, _≤_}
 use native.Mathlib.Omega.{arith}
 use native.Mathlib.Nat.{add-zero}
 use lib.IntN.{ℤ, pos}
-use lib.ListN.{length, take, drop, set}
-use lib.Seq.{drop-drop, set-split}
+use lib.ListN.{length, take, drop}
+use lib.Seq.{drop-drop, drop-cons}
 use Rattle.offer_rules.specs.Numbers.{eqZ, word}
 use Rattle.offer_rules.specs.Time.{slot-of}
 use Rattle.offer_rules.specs.Offer.{pairs-in, pairs}
 use Rattle.book_rules.specs.Words.{part, cell-place, standing-half, variation-half, standing-stamp, variation-stamp}
 use Rattle.book_rules.specs.Force.{no-offer, standing-offer, offer-variation, first-of}
 use Rattle.book_rules.specs.Book.{facilities-in, services-in, held, book-view}
-use Rattle.book_rules.proofs.Parts.{word-of-part, length-part}
+use Rattle.book_rules.proofs.Parts.{word-of-part}
 use Rattle.cells.specs.declared.InForce as place
 use Rattle.cells.specs.declared.InForce.the-variants.{Standing, Variation}
 use Rattle.cells.specs.Meaning.{Sized, offer-at, end-of}
@@ -82,9 +82,26 @@ pairs-at w at = ap pairs-in (ap (take 20) (sym (drop-drop 4 at w)) ∙ sym (past
     past-four (a ∷ (b ∷ (c ∷ []))) = refl
     past-four (a ∷ (b ∷ (c ∷ (d ∷ l)))) = refl
 
--- A cell, lent, with another word in the place of its stamp.
-pub stamp-replaced : (w : List ℤ) (at : ℕ) (x : ℤ) → at + 24 ≤ length w → set (take (at + 24 - at) (drop at w)) 0 x ≡ x ∷ offer-at w at
+-- Its words 1 to 3, and those of its pairs, lent.
+pub offer-in-parts : (w : List ℤ) (at : ℕ) → at + 24 ≤ length w
+    → offer-at w at ≡ word w (at + 1) ∷ word w (at + 2) ∷ word w (at + 3) ∷ take (at + 24 - (at + 4)) (drop (at + 4) w)
 unfolding offer-at part
-stamp-replaced w at x h =
-    let n : at + 24 - at ≡ 24 = omega arith in
-    ap (λ (k : ℕ). set (take k (drop at w)) 0 x) n ∙ set-split (part at 24 w) 0 x (omega (arith, length-part at 24 w h))
+offer-in-parts w at h =
+    let n : at + 24 - (at + 4) ≡ 20 = omega arith in
+    let one : suc (at + 1) ≡ at + 2 = omega arith in
+    let two : suc (at + 2) ≡ at + 3 = omega arith in
+    let three : suc (at + 3) ≡ at + 4 = omega arith in
+    past-one (drop at w)
+    ∙ ap (take 23)
+    (drop-drop 1 at w
+    ∙ drop-cons w (at + 1) (pos 0) (omega arith)
+    ∙ ap (λ (k : ℕ). word w (at + 1) ∷ drop k w) one
+    ∙ ap (λ (l : List ℤ). word w (at + 1) ∷ l)
+    (drop-cons w (at + 2) (pos 0) (omega arith)
+    ∙ ap (λ (k : ℕ). word w (at + 2) ∷ drop k w) two
+    ∙ ap (λ (l : List ℤ). word w (at + 2) ∷ l) (drop-cons w (at + 3) (pos 0) (omega arith) ∙ ap (λ (k : ℕ). word w (at + 3) ∷ drop k w) three)))
+    ∙ ap (λ (k : ℕ). word w (at + 1) ∷ word w (at + 2) ∷ word w (at + 3) ∷ take k (drop (at + 4) w)) (sym n)
+  where
+    past-one : (l : List ℤ) → drop 1 (take 24 l) ≡ take 23 (drop 1 l)
+    past-one [] = refl
+    past-one (a ∷ l) = refl

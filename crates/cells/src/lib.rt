@@ -184,14 +184,19 @@ fn total_quantity(book: &[i32], at: usize) -> i64
 }
 
 // "word 0 is 1 (standing) or 2 (variation), then cell words 1–23"
+// Words 0 to 3 by themselves, so that the 80 bytes of the pairs stay whole for copies of 16: every answer is copied so.
 fn found_at(book: &[i32], at: usize, kind: i32) -> Answer
     requires { ⌜ at + 24 ≤ length (now book) ⌝ }
     ensures { λ r. ⌜ answer-of r ≡ found-at (now (book .entry)) at kind ⌝ }
 {
+    let from = at + PAIRS;
     let end = at + CELL;
     let mut words = [0i32; 24];
-    copy_words(&mut words, &book[at..end]);
     words[0] = kind;
+    words[1] = book[at + 1];
+    words[2] = book[at + 2];
+    words[3] = book[at + 3];
+    copy_words(&mut words[PAIRS..], &book[from..end]);
     let sum = total_quantity(book, at);
     Answer {
         number: 0,
