@@ -138,15 +138,19 @@ fn wide(x: u8) -> u64
     x as u64
 }
 
-// 3 "facility ≥ F or service ≥ S, where used"
+// 3 "facility ≥ F or service ≥ S, where used". Most records have both below, and then no call need be told from another.
 fn is_outside(bytes: &[u8], facilities: u64, services: u64) -> bool
     requires { ⌜ length (now bytes) ≡ 112 ⌝ }
     ensures { λ r. ⌜ r ≡ outside (now (bytes .entry)) facilities services ⌝ }
 {
     let call = bytes[5];
     let service = bytes[7];
-    (is_used(call, service, 6) & (facilities <= wide(bytes[6])))
-        | (is_used(call, service, 7) & (services <= wide(service)))
+    let no_facility = facilities <= wide(bytes[6]);
+    let no_service = services <= wide(service);
+    if !(no_facility | no_service) {
+        return false;
+    }
+    (is_used(call, service, 6) & no_facility) | (is_used(call, service, 7) & no_service)
 }
 
 // Whether a byte from `from` to before `to` is not zero.
@@ -204,9 +208,13 @@ pub fn record_number(bytes: &[u8], facilities: u64, services: u64) -> u8
     if bytes.len() != 112 {
         return 2;
     }
-    let outside = is_outside(bytes, facilities, services);
-    let stray = has_stray(bytes);
-    first(!is_record(bytes), 2, first(outside, 3, first(stray, 4, 0)))
+    if !is_record(bytes) {
+        return 2;
+    }
+    if is_outside(bytes, facilities, services) {
+        return 3;
+    }
+    first(has_stray(bytes), 4, 0)
 }
 
 // "F not 1 to 64, S not 1 or 5"
