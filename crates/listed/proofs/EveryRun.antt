@@ -1,9 +1,8 @@
 -- The answers of a contracted run are the book's, and so the list machine's.
 use mathlib.Core.Path.{_≡_, refl, sym, ap, ap₂, _∙_}
-use mathlib.Core.List.{List, [], _∷_}
+use mathlib.Core.List.{List, _∷_}
 use Prim.Native.Nat.{ℕ}
 use lib.IntN.{ℤ}
-use Rattle.book_rules.specs.Words.{opening-words}
 use Rattle.book_rules.specs.Force.{Answer}
 use Rattle.book_rules.specs.Book.{book-answers}
 use Rattle.book_rules.specs.Claims.{EveryList}

@@ -1,6 +1,6 @@
 -- A turn of the loop over records: the records so far with one more at the end,
 -- the words that they leave, their answers and the numbers of these.
-use mathlib.Core.Path.{_≡_, refl, sym, ap, ap₂, _∙_}
+use mathlib.Core.Path.{_≡_, refl, sym, ap, _∙_}
 use mathlib.Core.List.{List, [], _∷_, _++_, append-assoc, append-nil}
 use Prim.Native.Nat.{ℕ, zero, suc, _+_, _*_, _-_, _≤_}
 use native.Mathlib.Numerals.{add-one}

@@ -11,7 +11,7 @@ use Rattle.offer_rules.specs.Numbers.{toNat}
 use Rattle.book_rules.specs.Words.{opening-number, opening-words}
 use Rattle.book_rules.specs.Force.{Answer}
 use Rattle.book_rules.specs.Book.{book-run}
-use Rattle.book_rules.specs.ListMachine.{list-answers}
+use Rattle.book_rules.specs.ListMachine.{list-answer, list-answers}
 use Rattle.listed.specs.declared.Listed.{Listed}
 
 -- The first n records of 112 bytes.
@@ -23,10 +23,14 @@ chopped (suc n) bytes = take 112 bytes ∷ chopped n (drop 112 bytes)
 unfoldable pub numbers-of : Answer → List ℤ
 numbers-of a = pos (a .number) ∷ (a .words ++ (a .sum ∷ []))
 
+-- Each answer of the list machine is 26 numbers, so that those of answer i start at 26·i.
+unfoldable pub TwentySixEach : Type 0
+TwentySixEach = (F S : ℕ) (limits : List ℤ) (l : List (List ℕ)) (b : List ℕ) → length (numbers-of (list-answer F S limits l b)) ≡ 26
+
 -- The numbers of answers, one answer after another.
 unfoldable pub flat : List Answer → List ℤ
 flat [] = []
-flat (a ∷ as′) = numbers-of a ++ flat as′
+flat (a ∷ rest) = numbers-of a ++ flat rest
 
 -- As many records as are whole and have room for their answers; none where the opening drew a number.
 unfoldable pub count-answered : ℕ → List ℕ → List ℤ → ℕ

@@ -1,16 +1,13 @@
 use mathlib.Core.Path.{_≡_, refl, _∙_, sym, ap}
-use mathlib.Core.List.{List, [], _++_}
-use Prim.Native.Nat.{_*_}
+use mathlib.Core.List.{List, []}
 use native.Mathlib.Omega.{arith}
 use lib.IntN.{ℤ}
-use lib.ListN.{length, drop}
 use mir.Syntax.{w32}
 use mir.Facts.{toZ-ofZ}
 use borrow.Author.Tests.{ne-eqb}
 use borrow.Author.Needs.{needs}
 use Rattle.offer_rules.specs.Numbers.{toNat}
 use Rattle.book_rules.specs.Words.{opening-number, opening-words}
-use Rattle.book_rules.specs.Force.{Answer}
 use Rattle.book_rules.specs.Book.{book-answers, book-run}
 use Rattle.book_rules.specs.ListMachine.{list-answers}
 use Rattle.book_rules.specs.Claims.{EveryList}
