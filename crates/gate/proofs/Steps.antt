@@ -4,7 +4,7 @@ use mathlib.Core.Bool.{Bool, true, false, cond, not, _&&_, _||_}
 use mathlib.Core.List.{List, []}
 use Prim.Native.Nat.{ℕ, zero, suc, _+_, _-_, _*_, _<_, _≤_}
 use native.Mathlib.Omega.{arith}
-use borrow.Author.Tests.{leb-true, leb-false, lt-ltb, ne-eqb}
+use borrow.Author.Tests.{le-leb, leb-true, leb-false, lt-ltb, ltb-true, ltb-false, ne-eqb, eqb-true}
 use lib.Dec.{ltb, leb, eqb}
 use lib.IntN.{ℤ}
 use lib.ListN.{length, drop}
@@ -12,7 +12,7 @@ use Rattle.offer_rules.specs.Numbers.{word}
 use Rattle.offer_rules.specs.Offer.{pairs-in}
 use Rattle.gate.specs.declared.Merge.{Merge}
 use Rattle.gate.specs.Differing.{or-else, first-differing}
-use Rattle.gate.specs.Merging.{cut, rest, left-of, alike, differ, pass-old, pass-new, either, merged, later, first-from}
+use Rattle.gate.specs.Merging.{cut, rest, left-of, alike, differ, pass-old, pass-new, pass-both, either, merged, later, first-from}
 use Rattle.gate.proofs.Words.{pairs-from, no-pairs-from}
 use Rattle.gate.proofs.Runs.{run, pass-shorter, pass-shorter-new, flip, uncut, none-left}
 
@@ -110,9 +110,9 @@ module _ (old new : List ℤ) (s : Merge) (ho : 2 * s .«old_pair» + 1 < length
         pass-shorter-new (word old (2 * s .«old_pair»)) (word new (2 * s .«new_pair»)) a b (pairs-in (drop (2 * (s .«old_pair» + 1)) old)) (pairs-in (drop (2 * (s .«new_pair» + 1)) new)) h,
       )
 
-  pub step-keeps-answer : differ a b same ≡ false → first-from old new (merged s a b) ≡ first-from old new s
-  unfolding merged first-from
-  step-keeps-answer f = go (leb a b) refl
+  one-keeps-answer : differ a b same ≡ false → first-from old new (either (leb a b) (pass-old s a) (pass-new s b)) ≡ first-from old new s
+  unfolding first-from
+  one-keeps-answer f = go (leb a b) refl
     where
       go : (t : Bool) → leb a b ≡ t → first-from old new (either t (pass-old s a) (pass-new s b)) ≡ first-from old new s
       go true h =
@@ -123,25 +123,17 @@ module _ (old new : List ℤ) (s : Merge) (ho : 2 * s .«old_pair» + 1 < length
           later-twice (s .passed) b (after (pass-new s b))
           ∙ sym (new-passed (omega arith) ∙ rw (differ-new a b same (omega arith), f))
 
+  -- where none is left of new's pair, it may be passed before old's
+  spent-keeps-answer : b ≡ 0 → first-from old new (pass-new s 0) ≡ first-from old new s
+  unfolding first-from
+  spent-keeps-answer z = later-twice (s .passed) 0 (after (pass-new s 0)) ∙ sym (rw z at (new-passed (omega (arith, z))))
+
   pub difference-is-answer : differ a b same ≡ true → first-from old new s ≡ s .passed + 1
   difference-is-answer f = go (leb a b) refl
     where
       go : (t : Bool) → leb a b ≡ t → first-from old new s ≡ s .passed + 1
       go true h = old-passed (leb-true a b h) ∙ rw (differ-old a b same (leb-true a b h), f) (omega arith)
       go false h = let k = leb-false a b h in new-passed (omega arith) ∙ rw (differ-new a b same (omega arith), f) (omega arith)
-
--- Sizes after a step: one pair is passed.
-pub step-sizes : (s : Merge) (a b m n k : ℕ) → s .«old_pair» < m → s .«new_pair» < n → s .«old_used» + a < k → s .«new_used» + b < k
-    → let r = merged s a b in (r .«old_pair» ≤ m) × (r .«new_pair» ≤ n) × (r .«old_used» < k) × (r .«new_used» < k)
-    × (r .«old_pair» + r .«new_pair» ≡ s .«old_pair» + s .«new_pair» + 1) × (r .passed ≤ s .passed + k)
-unfolding merged
-step-sizes s a b m n k ho hn ha hb = go (leb a b) refl
-  where
-    go : (t : Bool) → leb a b ≡ t
-        → let r = either t (pass-old s a) (pass-new s b) in (r .«old_pair» ≤ m) × (r .«new_pair» ≤ n) × (r .«old_used» < k) × (r .«new_used» < k)
-        × (r .«old_pair» + r .«new_pair» ≡ s .«old_pair» + s .«new_pair» + 1) × (r .passed ≤ s .passed + k)
-    go true f = let h = leb-true a b f in (omega arith, omega arith, omega arith, omega arith, omega arith, omega arith)
-    go false f = let h = leb-false a b f in (omega arith, omega arith, omega arith, omega arith, omega arith, omega arith)
 
 pub old-at-end : (old new : List ℤ) (s : Merge) → length old ≤ 2 * s .«old_pair» + 1 → first-from old new s ≡ 0
 unfolding first-from
@@ -156,6 +148,52 @@ new-at-end old new s h =
       flip (rest old (s .«old_pair») (s .«old_used»)) (cut (s .«new_used») []),
       none-left (s .«new_used») (rest old (s .«old_pair») (s .«old_used»)),
     )
+
+new-spent : (old new : List ℤ) (s : Merge) → 2 * s .«new_pair» + 1 < length new → left-of new (s .«new_pair») (s .«new_used») ≡ 0
+    → first-from old new (pass-new s 0) ≡ first-from old new s
+new-spent old new s hn z = go (ltb (2 * s .«old_pair» + 1) (length old)) refl
+  where
+    go : (t : Bool) → ltb (2 * s .«old_pair» + 1) (length old) ≡ t → first-from old new (pass-new s 0) ≡ first-from old new s
+    go true h = spent-keeps-answer old new s (ltb-true (2 * s .«old_pair» + 1) (length old) h) hn z
+    go false h = let k = ltb-false (2 * s .«old_pair» + 1) (length old) h in old-at-end old new (pass-new s 0) k ∙ sym (old-at-end old new s k)
+
+module _ (old new : List ℤ) (s : Merge) (ho : 2 * s .«old_pair» + 1 < length old) (hn : 2 * s .«new_pair» + 1 < length new) where
+  both-is-two : (a : ℕ) → pass-both s a ≡ pass-new (pass-old s a) 0
+  both-is-two a =
+      let e : s .passed + a ≡ s .passed + a + 0 = omega arith in
+      λ i. record { «old_pair» = s .«old_pair» + 1; «old_used» = 0; «new_pair» = s .«new_pair» + 1; «new_used» = 0; passed = e i }
+
+  both-keeps-answer : a old new s ho hn ≡ b old new s ho hn → differ (a old new s ho hn) (b old new s ho hn) (same old new s ho hn) ≡ false
+      → first-from old new (pass-both s (a old new s ho hn)) ≡ first-from old new s
+  both-keeps-answer h f =
+      ap (first-from old new) (both-is-two (a old new s ho hn))
+      ∙ new-spent old new (pass-old s (a old new s ho hn)) hn (left-after new (s .«new_pair») (s .«new_used») (a old new s ho hn) ∙ (omega (arith, h)))
+      ∙ sym (ap (λ (t : Bool). first-from old new (either t (pass-old s (a old new s ho hn)) (pass-new s (b old new s ho hn)))) (le-leb (a old new s ho hn) (b old new s ho hn) (omega (arith, h))))
+      ∙ one-keeps-answer old new s ho hn f
+
+  pub step-keeps-answer : differ (a old new s ho hn) (b old new s ho hn) (same old new s ho hn) ≡ false
+      → first-from old new (merged s (a old new s ho hn) (b old new s ho hn)) ≡ first-from old new s
+  unfolding merged
+  step-keeps-answer f = go (eqb (a old new s ho hn) (b old new s ho hn)) refl
+    where
+      go : (t : Bool) → eqb (a old new s ho hn) (b old new s ho hn) ≡ t
+          → first-from old new (either t (pass-both s (a old new s ho hn)) (either (leb (a old new s ho hn) (b old new s ho hn)) (pass-old s (a old new s ho hn)) (pass-new s (b old new s ho hn)))) ≡ first-from old new s
+      go true h = both-keeps-answer (eqb-true (a old new s ho hn) (b old new s ho hn) h) f
+      go false h = one-keeps-answer old new s ho hn f
+
+-- Sizes after a step: a pair is passed, or two.
+pub step-sizes : (s : Merge) (a b m n k : ℕ) → s .«old_pair» < m → s .«new_pair» < n → s .«old_used» + a < k → s .«new_used» + b < k
+    → let r = merged s a b in (r .«old_pair» ≤ m) × (r .«new_pair» ≤ n) × (r .«old_used» < k) × (r .«new_used» < k)
+    × (s .«old_pair» + s .«new_pair» + 1 ≤ r .«old_pair» + r .«new_pair») × (r .passed ≤ s .passed + k)
+unfolding merged
+step-sizes s a b m n k ho hn ha hb = go (eqb a b) (leb a b) refl
+  where
+    go : (e t : Bool) → leb a b ≡ t
+        → let r = either e (pass-both s a) (either t (pass-old s a) (pass-new s b)) in (r .«old_pair» ≤ m) × (r .«new_pair» ≤ n) × (r .«old_used» < k) × (r .«new_used» < k)
+        × (s .«old_pair» + s .«new_pair» + 1 ≤ r .«old_pair» + r .«new_pair») × (r .passed ≤ s .passed + k)
+    go true t f = (omega arith, omega arith, omega arith, omega arith, omega arith, omega arith)
+    go false true f = let h = leb-true a b f in (omega arith, omega arith, omega arith, omega arith, omega arith, omega arith)
+    go false false f = let h = leb-false a b f in (omega arith, omega arith, omega arith, omega arith, omega arith, omega arith)
 
 later-from-none : (n : ℕ) → later 0 n ≡ n
 later-from-none zero = refl

@@ -2,7 +2,7 @@
 use mathlib.Core.Bool.{Bool, true, false, not, _&&_}
 use mathlib.Core.List.{List, [], _∷_}
 use Prim.Native.Nat.{ℕ, zero, suc, _+_, _-_, _*_}
-use lib.Dec.{ltb, leb}
+use lib.Dec.{ltb, leb, eqb}
 use lib.IntN.{ℤ, pos}
 use lib.ListN.{drop}
 use Rattle.offer_rules.specs.Numbers.{eqZ, toNat, word}
@@ -39,13 +39,17 @@ pass-old s a = record { «old_pair» = s .«old_pair» + 1; «old_used» = 0; «
 abbrev pub pass-new : Merge → ℕ → Merge
 pass-new s b = record { «old_pair» = s .«old_pair»; «old_used» = s .«old_used» + b; «new_pair» = s .«new_pair» + 1; «new_used» = 0; passed = s .passed + b }
 
+-- As many are left of both, and both are passed.
+abbrev pub pass-both : Merge → ℕ → Merge
+pass-both s a = record { «old_pair» = s .«old_pair» + 1; «old_used» = 0; «new_pair» = s .«new_pair» + 1; «new_used» = 0; passed = s .passed + a }
+
 abbrev pub either : Bool → Merge → Merge → Merge
 either true s t = s
 either false s t = t
 
--- A step passes the pair with fewer tenths left.
+-- A step passes the pair with fewer tenths left, or both.
 unfoldable pub merged : Merge → ℕ → ℕ → Merge
-merged s a b = either (leb a b) (pass-old s a) (pass-new s b)
+merged s a b = either (eqb a b) (pass-both s a) (either (leb a b) (pass-old s a) (pass-new s b))
 
 -- A tenth's number, counted from n tenths before; 0 stays.
 abbrev pub later : ℕ → ℕ → ℕ

@@ -88,11 +88,21 @@ fn pairs_differ(a: u64, b: u64, same: bool) -> bool
     ((0 < a) & (0 < b)) & !same
 }
 
-// A step passes the pair with fewer tenths left, a of old's or b of new's.
+// A step passes the pair with fewer tenths left, a of old's or b of new's, or both where they are as many: a variation that
+// only adds to the old offer is walked through in as many steps as it has pairs.
 fn merge_step(s: Merge, a: u64, b: u64) -> Merge
     requires { ⌜ (s .«old_pair» < 9223372036854775808) × (s .«new_pair» < 9223372036854775808) × (s .«old_used» + a < 2147483648) × (s .«new_used» + b < 2147483648) × (s .passed < 9223372036854775808) ⌝ }
     ensures { λ r. ⌜ r ≡ merged s a b ⌝ }
 {
+    if a == b {
+        return Merge {
+            old_pair: s.old_pair + 1,
+            old_used: 0,
+            new_pair: s.new_pair + 1,
+            new_used: 0,
+            passed: s.passed + a,
+        };
+    }
     if a <= b {
         return Merge {
             old_pair: s.old_pair + 1,
@@ -206,6 +216,26 @@ fn is_before_closure(clock: u64, period: u64) -> bool
     clock + GATE_CLOSURE_MINUTES <= PERIOD_MINUTES * period
 }
 
+// Only reasons 3 to 5 ask for the totals.
+fn is_allowed(
+    g: Grounds,
+    service: u8,
+    period: u64,
+    reason: u8,
+    old: &[i32],
+    new: &[i32],
+) -> bool
+    requires { ⌜ (period < 2147483648) × (length (now old) ≤ 20) × (length (now new) ≤ 20) ⌝ }
+    ensures { λ r. ⌜ r ≡ reason-holds (grounds-of g) service period (total-tenths (pairs-in (now (old .entry)))) (total-tenths (pairs-in (now (new .entry)))) reason ⌝ }
+{
+    if (3 <= reason) & (reason <= 5) {
+        let before = total_tenths(old);
+        let after = total_tenths(new);
+        return reason_holds(g, service, period, before, after, reason);
+    }
+    reason_holds(g, service, period, 0, 0, reason)
+}
+
 // 17, of a variation; old holds no pairs where no offer is in force.
 pub fn gate_refuses(
     clock: u64,
@@ -222,10 +252,10 @@ pub fn gate_refuses(
     if is_before_closure(clock, period) {
         return false;
     }
-    let before = total_tenths(old);
-    let after = total_tenths(new);
-    let allowed = reason_holds(g, service, period, before, after, reason);
-    !(allowed & same_prices(old, new))
+    if is_allowed(g, service, period, reason, old, new) {
+        return !same_prices(old, new);
+    }
+    true
 }
 
 // "the slot's next period not yet begun"

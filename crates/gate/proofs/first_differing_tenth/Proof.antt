@@ -70,7 +70,7 @@ sizes-after : (c : tie.After-merge-step Inv-loop μ-loop) → let l = c .before 
     let s = l .loop .s in
     let r = c .merge-step .result in
     (r .«old_pair» ≤ length (l .before .args .old .now) / 2) × (r .«new_pair» ≤ length (l .before .args .new .now) / 2) × (r .«old_used» < 2147483648) × (r .«new_used» < 2147483648)
-    × (r .«old_pair» + r .«new_pair» ≡ s .«old_pair» + s .«new_pair» + 1) × (r .passed ≤ s .passed + 2147483648)
+    × (s .«old_pair» + s .«new_pair» + 1 ≤ r .«old_pair» + r .«new_pair») × (r .passed ≤ s .passed + 2147483648)
 sizes-after c =
     let l = c .before .before .before .before .before .before .before .before .before .before in
     rw (c .merge-step .ensures)

@@ -1,4 +1,4 @@
--- gate_refuses: open, or else the reason and the prices.
+-- gate_refuses: open, or else the reason, and then the prices.
 use Rattle.offer_rules.specs.Gate.{gate-refuses}
 use borrow.Author.Needs.{needs}
 use Rattle.gate.proofs.gate_refuses.Statement.{statement}
@@ -11,14 +11,8 @@ returns : tie.Need-returns
 unfolding gate-refuses
 returns c = rw (← c .before .is-before-closure .ensures, c .if1 .taken)
 
-total-tenths-requires : tie.Need-total-tenths-requires
-total-tenths-requires c κs = search needs
-
-total-tenths-requires-2 : tie.Need-total-tenths-requires-2
-total-tenths-requires-2 c κs = search needs
-
-reason-holds-requires : tie.Need-reason-holds-requires
-reason-holds-requires c κs = search needs
+is-allowed-requires : tie.Need-is-allowed-requires
+is-allowed-requires c κs = search needs
 
 same-prices-requires : tie.Need-same-prices-requires
 same-prices-requires c κs = search needs
@@ -27,13 +21,16 @@ returns-2 : tie.Need-returns-2
 unfolding gate-refuses
 returns-2 c =
     rw (
-      ← c .before .before .before .before .before .is-before-closure .ensures,
-      c .before .before .before .before .if1 .left,
-      ← c .before .before .before .total-tenths .ensures .0,
-      ← c .before .before .total-tenths2 .ensures .0,
-      ← c .before .reason-holds .ensures,
+      ← c .before .before .before .before .is-before-closure .ensures,
+      c .before .before .before .if1 .left,
+      ← c .before .before .is-allowed .ensures,
+      c .before .if2 .taken,
       ← c .same-prices .ensures,
     )
+
+returns-3 : tie.Need-returns-3
+unfolding gate-refuses
+returns-3 c = rw (← c .before .before .before .is-before-closure .ensures, c .before .before .if1 .left, ← c .before .is-allowed .ensures, c .if2 .left)
 
 pub gate-refuses-spec : {M : Type 1} → statement M
 gate-refuses-spec =
@@ -41,8 +38,7 @@ gate-refuses-spec =
     (tie.spec
     is-before-closure-requires
     returns
-    total-tenths-requires
-    total-tenths-requires-2
-    reason-holds-requires
+    is-allowed-requires
     same-prices-requires
-    returns-2)
+    returns-2
+    returns-3)
