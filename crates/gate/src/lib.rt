@@ -217,14 +217,7 @@ fn is_before_closure(clock: u64, period: u64) -> bool
 }
 
 // Only reasons 3 to 5 ask for the totals.
-fn is_allowed(
-    g: Grounds,
-    service: u8,
-    period: u64,
-    reason: u8,
-    old: &[i32],
-    new: &[i32],
-) -> bool
+fn is_allowed(g: Grounds, service: u8, period: u64, reason: u8, old: &[i32], new: &[i32]) -> bool
     requires { ⌜ (period < 2147483648) × (length (now old) ≤ 20) × (length (now new) ≤ 20) ⌝ }
     ensures { λ r. ⌜ r ≡ reason-holds (grounds-of g) service period (total-tenths (pairs-in (now (old .entry)))) (total-tenths (pairs-in (now (new .entry)))) reason ⌝ }
 {

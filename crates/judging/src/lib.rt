@@ -314,6 +314,22 @@ fn variation_rules_number(
     )
 }
 
+// 5, 9 and 10: what needs no word of the offer.
+pub fn variation_due_number(book: &[i32], f: usize, service: u8, period: i32) -> u8
+    requires { ⌜ Usable (now book) × (f < facilities-in (now book)) × (service < services-in (now book)) ⌝ }
+    ensures { λ r. ⌜ (r ≡ (facility-number (part (facility-place f) 17 (now (book .entry))) then registration-number (part (facility-place f) 17 (now (book .entry))) service then period-number (toNat (word (now (book .entry)) clock-place)) period)) × (r ≤ 10) ⌝ }
+{
+    let kind = kind_number(book, f);
+    if kind != 0 {
+        return kind;
+    }
+    let mark = mark_number(book, f, service);
+    if mark != 0 {
+        return mark;
+    }
+    period_number(book, period)
+}
+
 // 5 to 17.
 pub fn variation_number(
     book: &[i32],

@@ -17,6 +17,7 @@ use judging::facilities;
 use judging::kind_number;
 use judging::services;
 use judging::standing_number;
+use judging::variation_due_number;
 use judging::variation_number;
 use judging::wide;
 use record::capability_in;
@@ -117,7 +118,7 @@ pub fn standing_call(book: &mut [i32], bytes: &[u8]) -> Answer
 }
 
 // 5 to 17; files one cell. "The slot of P is P mod 336."
-pub fn variation_call(book: &mut [i32], bytes: &[u8]) -> Answer
+fn vary(book: &mut [i32], bytes: &[u8]) -> Answer
     requires { ⌜ Place (now book) (now bytes) 4 ⌝ }
     ensures { λ r. ⌜ (answer-of r ≡ book-answer (now (book .entry)) (now (bytes .entry))) × (now (book .exit) ≡ book-after (now (book .entry)) (now (bytes .entry))) ⌝ }
 {
@@ -141,6 +142,20 @@ pub fn variation_call(book: &mut [i32], bytes: &[u8]) -> Answer
     );
     store_offer(book, at, (p + 1) as u32, &offer);
     plain(0)
+}
+
+// 5, 9 and 10 are drawn before the offer is read from the bytes, which takes longer than the rest of such a call.
+pub fn variation_call(book: &mut [i32], bytes: &[u8]) -> Answer
+    requires { ⌜ Place (now book) (now bytes) 4 ⌝ }
+    ensures { λ r. ⌜ (answer-of r ≡ book-answer (now (book .entry)) (now (bytes .entry))) × (now (book .exit) ≡ book-after (now (book .entry)) (now (bytes .entry))) ⌝ }
+{
+    let f = wide(bytes[FACILITY_BYTE]);
+    let period = word_at(bytes, PERIOD);
+    let number = variation_due_number(book, f, bytes[SERVICE_BYTE], period);
+    if number != 0 {
+        return plain(number);
+    }
+    vary(book, bytes)
 }
 
 // 5 and 7; files the facility's window.

@@ -1,0 +1,2 @@
+-- Laws of what a writer draws.
+pub mod VariationDue
