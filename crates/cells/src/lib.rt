@@ -55,7 +55,7 @@ pub fn cell_place(
 // ---- stores
 
 // "0 stamp (0 empty, 1 standing, P + 1 variation), 1 proportion, 2 ramp up, 3 ramp down, 4–23 pairs"
-pub fn write_cell(words: &mut [i32], stamp: u32, offer: &[i32])
+fn write_cell(words: &mut [i32], stamp: u32, offer: &[i32])
     requires { ⌜ (length (now words) ≡ 24) × (stamp < 2147483648) × (length (now offer) ≡ 23) ⌝ }
     ensures { λ _. ⌜ now (words .exit) ≡ cell stamp (now (offer .entry)) ⌝ }
 {
@@ -105,7 +105,7 @@ pub enum InForce {
     Variation(usize),
 }
 
-pub fn is_stamped(book: &[i32], at: usize, stamp: u32) -> bool
+fn is_stamped(book: &[i32], at: usize, stamp: u32) -> bool
     requires { ⌜ (at < length (now book)) × (stamp < 2147483648) ⌝ }
     ensures { λ r. ⌜ r ≡ eqZ (word (now (book .entry)) at) (pos stamp) ⌝ }
 {

@@ -122,7 +122,7 @@ fn merge_step(s: Merge, a: u64, b: u64) -> Merge
 }
 
 // The lowest n from 1 to the smaller total whose tenth differs in price; 0 where none does.
-pub fn first_differing_tenth(old: &[i32], new: &[i32]) -> u64
+fn first_differing_tenth(old: &[i32], new: &[i32]) -> u64
     requires { ⌜ (length (now old) ≤ 20) × (length (now new) ≤ 20) ⌝ }
     ensures { λ r. ⌜ r ≡ first-differing (pairs-in (now (old .entry))) (pairs-in (now (new .entry))) ⌝ }
 {
