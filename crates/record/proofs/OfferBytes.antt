@@ -1,15 +1,16 @@
 -- Calls 3 and 4 use bytes 6 to 11 or 12 and then those of an offer, by its service.
 -- So their stray bytes are in a gap before byte 13, or beside the offer's from there on.
-use mathlib.Core.Path.{_≡_, ap, _∙_}
+use mathlib.Core.Path.{_≡_, refl, sym, ap, _∙_, subst}
 use mathlib.Core.Bool.{Bool, true, false, cond, _&&_, _||_, and-false, or-false}
-use mathlib.Core.List.{List}
+use mathlib.Core.List.{List, [], _∷_}
 use Prim.Native.Nat.{ℕ, _<_}
 use native.Mathlib.Omega.{arith}
-use lib.Dec.{eqb, ltb, leb}
+use lib.Dec.{T, eqb, ltb, leb}
 use lib.ListN.{length, drop}
-use borrow.Author.Tests.{lt-leb}
-use Rattle.book_rules.specs.Record.{any-stray, between, used-by-offer}
-use Rattle.record.proofs.StrayBytes.{Gap, fit, set-or, stray-or-later, stray-alike}
+use borrow.Author.Tests.{lt-leb, eqb-true}
+use Rattle.book_rules.specs.Record.{any-stray, between, used-by-offer, used}
+use Rattle.record.specs.Gaps.{any-set}
+use Rattle.record.proofs.StrayBytes.{Gap, gap, fit, set-or, all-used, all-unused, stray-or-later, stray-alike}
 
 -- an offer uses no byte before 14
 pub offer-from-14 : (s i : ℕ) → i < 14 → used-by-offer s i ≡ false
@@ -32,3 +33,38 @@ stray-beside-offer f s top b l small n h e =
     stray-or-later f (λ i. between 6 top i) b 13 (omega arith)
     (λ i k. h i ∙ ap (λ (y : Bool). between 6 top i || y) (offer-from-14 s i (omega arith)) ∙ or-false (between 6 top i)) 6 l e
     ∙ ap (set-or b l) (stray-alike f (used-by-offer s) 13 (drop 13 b) (λ i k. h i ∙ ap (λ (x : Bool). x || used-by-offer s i) (not-past 6 top i (omega arith))))
+
+-- a standing offer has a gap at byte 12, where a variation has its reason
+stray-of-3 : (s : ℕ) (b : List ℕ) → length b ≡ 112
+    → any-stray (used 3 s) 6 (drop 6 b) ≡ (any-set b 12 1 || any-stray (used-by-offer s) 13 (drop 13 b))
+unfolding used fit set-or all-used all-unused
+stray-of-3 s b n = stray-beside-offer (used 3 s) s 11 b (gap 12 1 ∷ []) (omega arith) n (λ i. refl) refl
+
+stray-of-4 : (s : ℕ) (b : List ℕ) → length b ≡ 112 → any-stray (used 4 s) 6 (drop 6 b) ≡ any-stray (used-by-offer s) 13 (drop 13 b)
+unfolding used fit set-or all-used all-unused
+stray-of-4 s b n = stray-beside-offer (used 4 s) s 12 b [] (omega arith) n (λ i. refl) refl
+
+pub stray-of-offer : (k s : ℕ) (b : List ℕ) → length b ≡ 112 → (eqb k 3 || eqb k 4) ≡ true
+    → ((eqb k 3 && any-set b 12 1) || any-stray (used-by-offer s) 13 (drop 13 b)) ≡ any-stray (used k s) 6 (drop 6 b)
+stray-of-offer k s b n h = go (eqb k 3) (eqb k 4) refl refl h
+  where
+    go : (t u : Bool) → eqb k 3 ≡ t → eqb k 4 ≡ u → (t || u) ≡ true
+        → ((t && any-set b 12 1) || any-stray (used-by-offer s) 13 (drop 13 b)) ≡ any-stray (used k s) 6 (drop 6 b)
+    go true u e f g = rw (eqb-true k 3 e) (sym (stray-of-3 s b n))
+    go false true e f g = rw (eqb-true k 4 f) (sym (stray-of-4 s b n))
+    go false false e f g = absurd (subst T (sym g) tt)
+
+-- neither
+pub no-offer-3 : (k : ℕ) → (eqb k 3 || eqb k 4) ≡ false → eqb k 3 ≡ false
+no-offer-3 k h = go (eqb k 3) (eqb k 4) h
+  where
+    go : (t u : Bool) → (t || u) ≡ false → t ≡ false
+    go true u h = h
+    go false u h = refl
+
+pub no-offer-4 : (k : ℕ) → (eqb k 3 || eqb k 4) ≡ false → eqb k 4 ≡ false
+no-offer-4 k h = go (eqb k 3) (eqb k 4) h
+  where
+    go : (t u : Bool) → (t || u) ≡ false → u ≡ false
+    go true u h = absurd (subst T h tt)
+    go false u h = h

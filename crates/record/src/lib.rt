@@ -4,7 +4,9 @@ ghost use mathlib.Core.Path.{_≡_};
 ghost use Prim.Native.Nat.{_+_, _*_, _-_, _≤_, _<_};
 ghost use lib.IntN.{pos};
 ghost use lib.ListN.{length, drop};
-ghost use Rattle.book_rules.specs.Record.{byte, signed, word-at, words-at, offer-in, capability-in};
+ghost use lib.Dec.{eqb};
+ghost use mathlib.Core.Bool.{false};
+ghost use Rattle.book_rules.specs.Record.{byte, service-of, signed, word-at, words-at, offer-in, capability-in};
 ghost use Rattle.book_rules.specs.Record.{between, used-by-offer, used, is-record, outside, any-stray, has-stray};
 ghost use Rattle.book_rules.specs.Record.{record-number, sizes-ok, record-test};
 ghost use Rattle.record.specs.Gaps.{any-set};
@@ -127,8 +129,14 @@ fn is_record(bytes: &[u8]) -> bool
     requires { ⌜ length (now bytes) ≡ 112 ⌝ }
     ensures { λ r. ⌜ r ≡ is-record (now (bytes .entry)) ⌝ }
 {
-    (((bytes[0] == b'S') & (bytes[1] == b'O')) & (bytes[2] == b'B'))
-        & (((bytes[3] == 0) & (bytes[4] == 1)) & ((1 <= bytes[5]) & (bytes[5] <= 9)))
+    let marked = ((bytes[0] == b'S') & (bytes[1] == b'O')) & (bytes[2] == b'B');
+    if !(marked & (bytes[3] == 0)) {
+        return false;
+    }
+    if bytes[4] != 1 {
+        return false;
+    }
+    (1 <= bytes[5]) & (bytes[5] <= 9)
 }
 
 // A byte as a count.
@@ -138,7 +146,7 @@ fn wide(x: u8) -> u64
     x as u64
 }
 
-// 3 "facility ≥ F or service ≥ S, where used". Most records have both below, and then no call need be told from another.
+// 3 "facility ≥ F or service ≥ S, where used". Most records have both below, and then no call is told from another.
 fn is_outside(bytes: &[u8], facilities: u64, services: u64) -> bool
     requires { ⌜ length (now bytes) ≡ 112 ⌝ }
     ensures { λ r. ⌜ r ≡ outside (now (bytes .entry)) facilities services ⌝ }
@@ -147,10 +155,13 @@ fn is_outside(bytes: &[u8], facilities: u64, services: u64) -> bool
     let service = bytes[7];
     let no_facility = facilities <= wide(bytes[6]);
     let no_service = services <= wide(service);
-    if !(no_facility | no_service) {
-        return false;
+    if no_facility {
+        return is_used(call, service, 6) | (is_used(call, service, 7) & no_service);
     }
-    (is_used(call, service, 6) & no_facility) | (is_used(call, service, 7) & no_service)
+    if no_service {
+        return is_used(call, service, 7);
+    }
+    false
 }
 
 // Whether a byte from `from` to before `to` is not zero.
@@ -179,26 +190,34 @@ fn has_stray_beside_offer(bytes: &[u8], service: u8) -> bool
     }
 }
 
-// 4 "an unused byte not zero": the gaps between the bytes of is_used.
+// 4 of a call that carries no offer: the gaps between the bytes of is_used.
 // One match, then loops whose ends are constants: a match for each byte takes thirty times as long.
-fn has_stray(bytes: &[u8]) -> bool
-    requires { ⌜ length (now bytes) ≡ 112 ⌝ }
-    ensures { λ r. ⌜ r ≡ has-stray (now (bytes .entry)) ⌝ }
+fn has_stray_beside_words(bytes: &[u8], call: u8) -> bool
+    requires { ⌜ (length (now bytes) ≡ 112) × (eqb call 3 ≡ false) × (eqb call 4 ≡ false) ⌝ }
+    ensures { λ r. ⌜ r ≡ any-stray (used call (service-of (now (bytes .entry)))) 6 (drop 6 (now (bytes .entry))) ⌝ }
 {
-    let call = bytes[5];
-    let service = bytes[7];
     match call {
         1 => any_set(bytes, 6, 24) | any_set(bytes, 28, 112),
         2 => any_set(bytes, 7, 32) | any_set(bytes, 100, 112),
-        3 => any_set(bytes, 12, 13) | has_stray_beside_offer(bytes, service),
-        4 => has_stray_beside_offer(bytes, service),
         5 => any_set(bytes, 7, 24) | any_set(bytes, 32, 112),
         6 => any_set(bytes, 6, 12) | (any_set(bytes, 13, 24) | any_set(bytes, 32, 112)),
         7 => any_set(bytes, 6, 12) | any_set(bytes, 13, 112),
         8 => any_set(bytes, 12, 112),
         9 => any_set(bytes, 6, 7) | any_set(bytes, 12, 112),
-        0 | 10..=255 => any_set(bytes, 6, 112),
+        0 | 3 | 4 | 10..=255 => any_set(bytes, 6, 112),
     }
+}
+
+// 4 "an unused byte not zero". Calls 3 and 4, which carry an offer, are told apart by byte 12 alone, a variation's reason.
+fn has_stray(bytes: &[u8]) -> bool
+    requires { ⌜ length (now bytes) ≡ 112 ⌝ }
+    ensures { λ r. ⌜ r ≡ has-stray (now (bytes .entry)) ⌝ }
+{
+    let call = bytes[5];
+    if (call == 3) | (call == 4) {
+        return ((call == 3) & any_set(bytes, 12, 13)) | has_stray_beside_offer(bytes, bytes[7]);
+    }
+    has_stray_beside_words(bytes, call)
 }
 
 // 2, 3, 4 or 0, for F facilities and S services.

@@ -1,16 +1,8 @@
--- Each arm's gaps are what its call doesn't use: `fit` computes it, from the arm's own numbers.
--- Calls 3 and 4 end in the bytes beside an offer.
-use mathlib.Core.Path.{_≡_, refl, sym}
-use mathlib.Core.Logic.{⊎-elim}
-use mathlib.Core.Bool.{false, _||_}
-use mathlib.Core.List.{[], _∷_}
-use Prim.Native.Nat.{ℕ}
-use native.Mathlib.Omega.{arith}
+-- Calls 3 and 4 by what stands beside an offer, the others by their gaps.
+use mathlib.Core.Bool.{_||_}
 use lib.Dec.{eqb}
-use borrow.Author.Tests.{ne-eqb}
-use Rattle.book_rules.specs.Record.{has-stray, used, between, byte}
-use Rattle.record.proofs.StrayBytes.{gap, fit, set-in-gaps, set-or, all-used, all-unused, stray-in-gaps}
-use Rattle.record.proofs.OfferBytes.{stray-beside-offer}
+use Rattle.book_rules.specs.Record.{has-stray, byte}
+use Rattle.record.proofs.OfferBytes.{stray-of-offer, no-offer-3, no-offer-4}
 use borrow.Author.Needs.{needs}
 use Rattle.record.proofs.has_stray.Statement.{statement}
 use Rattle.record.proofs.has_stray.Tie as tie
@@ -18,176 +10,40 @@ use Rattle.record.proofs.has_stray.Tie as tie
 shared-slice-read-call : tie.Need-shared-slice-read-call
 shared-slice-read-call c = search needs
 
-shared-slice-read-service : tie.Need-shared-slice-read-service
-shared-slice-read-service c = search needs
-
 any-set-requires : tie.Need-any-set-requires
 any-set-requires c κs = search needs
 
-any-set-requires-2 : tie.Need-any-set-requires-2
-any-set-requires-2 c κs = search needs
-
-any-set-requires-3 : tie.Need-any-set-requires-3
-any-set-requires-3 c κs = search needs
-
-any-set-requires-4 : tie.Need-any-set-requires-4
-any-set-requires-4 c κs = search needs
-
-any-set-requires-5 : tie.Need-any-set-requires-5
-any-set-requires-5 c κs = search needs
+shared-slice-read-has-stray-beside-offer : tie.Need-shared-slice-read-has-stray-beside-offer
+shared-slice-read-has-stray-beside-offer c = search needs
 
 has-stray-beside-offer-requires : tie.Need-has-stray-beside-offer-requires
 has-stray-beside-offer-requires c κs = search needs
 
-has-stray-beside-offer-requires-2 : tie.Need-has-stray-beside-offer-requires-2
-has-stray-beside-offer-requires-2 c κs = search needs
-
-any-set-requires-6 : tie.Need-any-set-requires-6
-any-set-requires-6 c κs = search needs
-
-any-set-requires-7 : tie.Need-any-set-requires-7
-any-set-requires-7 c κs = search needs
-
-any-set-requires-8 : tie.Need-any-set-requires-8
-any-set-requires-8 c κs = search needs
-
-any-set-requires-9 : tie.Need-any-set-requires-9
-any-set-requires-9 c κs = search needs
-
-any-set-requires-10 : tie.Need-any-set-requires-10
-any-set-requires-10 c κs = search needs
-
-any-set-requires-11 : tie.Need-any-set-requires-11
-any-set-requires-11 c κs = search needs
-
-any-set-requires-12 : tie.Need-any-set-requires-12
-any-set-requires-12 c κs = search needs
-
-any-set-requires-13 : tie.Need-any-set-requires-13
-any-set-requires-13 c κs = search needs
-
-any-set-requires-14 : tie.Need-any-set-requires-14
-any-set-requires-14 c κs = search needs
-
-any-set-requires-15 : tie.Need-any-set-requires-15
-any-set-requires-15 c κs = search needs
-
-any-set-requires-16 : tie.Need-any-set-requires-16
-any-set-requires-16 c κs = search needs
-
 returns : tie.Need-returns
-unfolding has-stray used fit set-in-gaps all-used all-unused
+unfolding has-stray
 returns c =
     let s = c .before .before .before .before .before .before in
     let b = s .args .bytes .now in
-    rw (c .any-set2 .ensures, c .before .any-set .ensures)
-    (stray-in-gaps (used (byte b 5) (byte b 7)) (λ i. between 24 27 i) b 6 (gap _ _ ∷ (gap _ _ ∷ [])) (s .pre) (λ i. rw (c .before .before .match .keys1)) refl)
+    rw (c .has-stray-beside-offer .ensures, c .before .before .any-set .ensures)
+    (stray-of-offer (byte b 5) (byte b 7) b (s .pre) (c .before .before .before .if1 .taken))
+
+has-stray-beside-words-requires : tie.Need-has-stray-beside-words-requires
+has-stray-beside-words-requires c κs =
+    let b = c .before .before .before .args .bytes .now in
+    (c .before .before .before .pre, no-offer-3 (byte b 5) (c .if1 .left), no-offer-4 (byte b 5) (c .if1 .left))
 
 returns-2 : tie.Need-returns-2
-unfolding has-stray used fit set-in-gaps all-used all-unused
-returns-2 c =
-    let s = c .before .before .before .before .before .before in
-    let b = s .args .bytes .now in
-    rw (c .any-set4 .ensures, c .before .any-set3 .ensures)
-    (stray-in-gaps (used (byte b 5) (byte b 7)) (λ i. eqb i 6 || between 32 99 i) b 6 (gap _ _ ∷ (gap _ _ ∷ [])) (s .pre) (λ i. rw (c .before .before .match .keys2)) refl)
-
-returns-3 : tie.Need-returns-3
-unfolding has-stray used fit set-or all-used all-unused
-returns-3 c =
-    let s = c .before .before .before .before .before .before in
-    let b = s .args .bytes .now in
-    rw (c .has-stray-beside-offer .ensures, c .before .any-set5 .ensures)
-    (sym (stray-beside-offer (used (byte b 5) (byte b 7)) (byte b 7) 11 b (gap _ _ ∷ []) (omega arith) (s .pre) (λ i. rw (c .before .before .match .keys3)) refl))
-
-returns-4 : tie.Need-returns-4
-unfolding has-stray used fit set-or all-used all-unused
-returns-4 c =
-    let s = c .before .before .before .before .before in
-    let b = s .args .bytes .now in
-    rw (c .has-stray-beside-offer2 .ensures)
-    (sym (stray-beside-offer (used (byte b 5) (byte b 7)) (byte b 7) 12 b [] (omega arith) (s .pre) (λ i. rw (c .before .match .keys4)) refl))
-
-returns-5 : tie.Need-returns-5
-unfolding has-stray used fit set-in-gaps all-used all-unused
-returns-5 c =
-    let s = c .before .before .before .before .before .before in
-    let b = s .args .bytes .now in
-    rw (c .any-set7 .ensures, c .before .any-set6 .ensures)
-    (stray-in-gaps (used (byte b 5) (byte b 7)) (λ i. eqb i 6 || between 24 31 i) b 6 (gap _ _ ∷ (gap _ _ ∷ [])) (s .pre) (λ i. rw (c .before .before .match .keys5)) refl)
-
-returns-6 : tie.Need-returns-6
-unfolding has-stray used fit set-in-gaps all-used all-unused
-returns-6 c =
-    let s = c .before .before .before .before .before .before .before in
-    let b = s .args .bytes .now in
-    rw (c .any-set10 .ensures, c .before .any-set9 .ensures, c .before .before .any-set8 .ensures)
-    (stray-in-gaps (used (byte b 5) (byte b 7)) (λ i. eqb i 12 || between 24 31 i) b 6 (gap _ _ ∷ (gap _ _ ∷ (gap _ _ ∷ []))) (s .pre) (λ i. rw (c .before .before .before .match .keys6)) refl)
-
-returns-7 : tie.Need-returns-7
-unfolding has-stray used fit set-in-gaps all-used all-unused
-returns-7 c =
-    let s = c .before .before .before .before .before .before in
-    let b = s .args .bytes .now in
-    rw (c .any-set12 .ensures, c .before .any-set11 .ensures)
-    (stray-in-gaps (used (byte b 5) (byte b 7)) (λ i. eqb i 12) b 6 (gap _ _ ∷ (gap _ _ ∷ [])) (s .pre) (λ i. rw (c .before .before .match .keys7)) refl)
-
-returns-8 : tie.Need-returns-8
-unfolding has-stray used fit set-in-gaps all-used all-unused
-returns-8 c =
-    let s = c .before .before .before .before .before in
-    let b = s .args .bytes .now in
-    rw (c .any-set13 .ensures)
-    (stray-in-gaps (used (byte b 5) (byte b 7)) (λ i. between 6 11 i) b 6 (gap _ _ ∷ []) (s .pre) (λ i. rw (c .before .match .keys8)) refl)
-
-returns-9 : tie.Need-returns-9
-unfolding has-stray used fit set-in-gaps all-used all-unused
-returns-9 c =
-    let s = c .before .before .before .before .before .before in
-    let b = s .args .bytes .now in
-    rw (c .any-set15 .ensures, c .before .any-set14 .ensures)
-    (stray-in-gaps (used (byte b 5) (byte b 7)) (λ i. between 7 11 i) b 6 (gap _ _ ∷ (gap _ _ ∷ [])) (s .pre) (λ i. rw (c .before .before .match .keys9)) refl)
-
-returns-10 : tie.Need-returns-10
-unfolding has-stray used fit set-in-gaps all-used all-unused
-returns-10 c =
-    let s = c .before .before .before .before .before in
-    let b = s .args .bytes .now in
-    let k = byte b 5 in
-    let none : (i : ℕ) → used k (byte b 7) i ≡ false =
-    λ i. ⊎-elim (λ m. rw (m .keys10)) (λ m. let r = m .rest in rw (ne-eqb k 1 (r .0 .0 .0 .0 .0 .0 .0 .0 .0 .1), ne-eqb k 2 (r .0 .0 .0 .0 .0 .0 .0 .0 .1), ne-eqb k 3 (r .0 .0 .0 .0 .0 .0 .0 .1), ne-eqb k 4 (r .0 .0 .0 .0 .0 .0 .1), ne-eqb k 5 (r .0 .0 .0 .0 .0 .1), ne-eqb k 6 (r .0 .0 .0 .0 .1), ne-eqb k 7 (r .0 .0 .0 .1), ne-eqb k 8 (r .0 .0 .1), ne-eqb k 9 (r .0 .1))) (c .before .match .came) in
-    rw (c .any-set16 .ensures) (stray-in-gaps (used k (byte b 7)) (λ i. false) b 6 (gap _ _ ∷ []) (s .pre) none refl)
+unfolding has-stray
+returns-2 c = c .has-stray-beside-words .ensures
 
 pub has-stray-spec : {M : Type 1} → statement M
 has-stray-spec =
     tie.close
     (tie.spec
     shared-slice-read-call
-    shared-slice-read-service
     any-set-requires
-    any-set-requires-2
-    any-set-requires-3
-    any-set-requires-4
-    any-set-requires-5
+    shared-slice-read-has-stray-beside-offer
     has-stray-beside-offer-requires
-    has-stray-beside-offer-requires-2
-    any-set-requires-6
-    any-set-requires-7
-    any-set-requires-8
-    any-set-requires-9
-    any-set-requires-10
-    any-set-requires-11
-    any-set-requires-12
-    any-set-requires-13
-    any-set-requires-14
-    any-set-requires-15
-    any-set-requires-16
     returns
-    returns-2
-    returns-3
-    returns-4
-    returns-5
-    returns-6
-    returns-7
-    returns-8
-    returns-9
-    returns-10)
+    has-stray-beside-words-requires
+    returns-2)
