@@ -209,7 +209,7 @@ pub fn reason_holds(g: Grounds, service: u8, period: u64, old: u64, new: u64, re
     }
 }
 
-fn is_before_closure(clock: u64, period: u64) -> bool
+pub fn is_before_closure(clock: u64, period: u64) -> bool
     requires { ⌜ (clock ≤ 1000000000) × (period < 2147483648) ⌝ }
     ensures { λ r. ⌜ r ≡ is-open clock period ⌝ }
 {

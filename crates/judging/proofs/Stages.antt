@@ -7,9 +7,10 @@ use Prim.Native.Nat.{ℕ, _<_, _≤_}
 use native.Mathlib.Omega.{arith}
 use lib.Dec.{eqb}
 use lib.IntN.{ℤ, pos}
-use Rattle.offer_rules.specs.Numbers.{toNat, word, _then_}
+use Rattle.offer_rules.specs.Numbers.{toNat, word, draw, _then_}
 use Rattle.offer_rules.specs.Time.{slots, start-of, horizon-end}
 use Rattle.offer_rules.specs.Offer.{standing-rules, variation-rules}
+use Rattle.offer_rules.specs.Gate.{Grounds, is-open, gate-refuses}
 use Rattle.offer_rules.proofs.Drawn.{then-zero, then-assoc}
 use Rattle.book_rules.specs.Words.{part, clock-place, limits-place, facility-place}
 use Rattle.book_rules.specs.Force.{InForce, first-of, in-force}
@@ -59,3 +60,8 @@ pub held-first : (o : Option (List ℤ)) → held-in (first-of none o) ≡ o
 unfolding held-in first-of
 held-first none = refl
 held-first (some o) = refl
+
+-- Before closure a variation draws no 17, whatever is in force.
+pub open-draws-none : (now : ℕ) (g : Grounds) (s p reason : ℕ) (old : InForce) (o : List ℤ) → is-open now p ≡ true → gate-number now g s p reason old o ≡ 0
+unfolding gate-number gate-refuses draw
+open-draws-none now g s p reason old o h = rw h

@@ -23,6 +23,7 @@ use cells::in_force;
 use gate::Grounds;
 use gate::Window;
 use gate::gate_refuses;
+use gate::is_before_closure;
 use refusals::draw_if;
 use units::nat;
 
@@ -330,7 +331,7 @@ pub fn variation_due_number(book: &[i32], f: usize, service: u8, period: i32) ->
     period_number(book, period)
 }
 
-// 5 to 17.
+// 5 to 17. Before closure, where most variations are filed, the offer in force is not looked up.
 pub fn variation_number(
     book: &[i32],
     f: usize,
@@ -347,6 +348,9 @@ pub fn variation_number(
         return number;
     }
     let p = nat(period) as usize;
+    if is_before_closure(clock(book), p as u64) {
+        return 0;
+    }
     let old = in_force(book, facilities(book), services(book), f, wide(service), p);
     gate_number(book, f, service, p, reason, old, offer)
 }

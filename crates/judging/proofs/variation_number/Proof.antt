@@ -11,6 +11,7 @@ use Rattle.judging.proofs.variation_rules_number.Reads as variation-rul
 use Rattle.judging.proofs.wide.Reads as wide-reads
 use Rattle.units.proofs.nat.Reads as nat-reads
 use mathlib.Core.Path.{_≡_, refl, sym, _∙_, ap, ap₂}
+use mathlib.Core.Bool.{true}
 use mathlib.Core.List.{List}
 use Prim.Native.Nat.{ℕ, _+_, _*_, _-_, _≤_, _<_}
 use native.Mathlib.Omega.{arith}
@@ -19,19 +20,18 @@ use mir.Syntax.{w32}
 use mir.Facts.{toZ-ofZ}
 use Rattle.offer_rules.specs.Numbers.{toNat, word, _then_}
 use Rattle.units.proofs.Chains.{then-none, then-drawn}
+use Rattle.offer_rules.specs.Gate.{is-open}
 use Rattle.book_rules.specs.Words.{clock-place}
 use Rattle.book_rules.specs.Force.{InForce}
 use Rattle.book_rules.specs.Book.{book-view}
 use Rattle.cells.specs.Meaning.{meaning}
 use Rattle.book_rules.specs.Force.{in-force}
 use Rattle.book_rules.specs.Refusals.{gate-number, grounds}
-use Rattle.judging.proofs.Stages.{variation-first, variation-stages, period-inside}
+use Rattle.judging.proofs.Stages.{variation-first, variation-stages, period-inside, open-draws-none}
 
--- src/lib.rt:286:9
 variation-rules-number-requires : tie.Need-variation-rules-number-requires
 variation-rules-number-requires c κs = search needs
 
--- src/lib.rt:288:9
 returns : tie.Need-returns
 returns c =
     let s = c .before .before in
@@ -43,23 +43,9 @@ returns c =
       omega (arith, x .ensures .1),
     )
 
--- src/lib.rt:290:13
 nat-requires : tie.Need-nat-requires
 nat-requires c κs = search needs
 
--- src/lib.rt:291:30
-facilities-requires : tie.Need-facilities-requires
-facilities-requires c κs = search needs
-
--- src/lib.rt:291:48
-services-requires : tie.Need-services-requires
-services-requires c κs = search needs
-
--- src/lib.rt:291:67
-wide-requires : tie.Need-wide-requires
-wide-requires c κs = search needs
-
--- src/lib.rt:291:9
 -- What 5 to 16 leave: the period is a small count.
 inside : (c : tie.After-nat) →
     let s = c .before .before .before in
@@ -74,24 +60,51 @@ inside c =
     sym (x .ensures .0 ∙ ap (λ (p : ℤ). variation-first w (s .args .f) (s .args .service) p (s .args .reason) (s .args .offer .now)) period) ∙ c .before .if1 .left in
     (c .nat .ensures .0 ∙ ap toNat period, period-inside w (s .args .f) (s .args .service) (s .args .period) (s .args .reason) (s .args .offer .now) (s .pre .0 .timely) e, e)
 
-in-force-requires : tie.Need-in-force-requires
-in-force-requires c κs =
-    let i = inside (c .before .before .before) in
-    let s = c .before .before .before .before .before .before in
-    rw (c .before .before .facilities .ensures, c .before .services .ensures, c .wide .ensures, i .0) (s .pre .0 .sized, s .pre .1, s .pre .2, i .1)
+clock-requires : tie.Need-clock-requires
+clock-requires c κs = search needs
 
--- src/lib.rt:292:5
-gate-number-requires : tie.Need-gate-number-requires
-gate-number-requires c κs =
-    let i = inside (c .before .before .before .before) in
-    let s = c .before .before .before .before .before .before .before in
-    (s .pre .0, s .pre .1, c .in-force .ensures .1, rw (i .0) (i .1), s .pre .3)
+is-before-closure-requires : tie.Need-is-before-closure-requires
+is-before-closure-requires c κs = (c .clock .ensures .1, omega (arith, c .before .nat .ensures .1))
 
--- src/lib.rt:275:1
 returns-2 : tie.Need-returns-2
 returns-2 c =
-    let i = inside (c .before .before .before .before .before) in
-    let s = c .before .before .before .before .before .before .before .before in
+    let i = inside (c .before .before .before) in
+    let s = c .before .before .before .before .before .before in
+    let w = s .args .book .now in
+    let f = s .args .f in
+    let is-before : is-open (toNat (word w clock-place)) (toNat (s .args .period)) ≡ true =
+    sym (c .before .is-before-closure .ensures ∙ ap₂ is-open (c .before .before .clock .ensures .0) (i .0)) ∙ c .if2 .taken in (
+      sym (variation-stages w f (s .args .service) (s .args .period) (s .args .reason) (s .args .offer .now)
+          ∙ then-none _ _ (i .2)
+          ∙ open-draws-none (toNat (word w clock-place)) (grounds (book-view w) f) (s .args .service) (toNat (s .args .period)) (s .args .reason) (in-force (book-view w) f (s .args .service) (toNat (s .args .period))) (s .args .offer .now) is-before),
+      omega arith,
+    )
+
+facilities-requires : tie.Need-facilities-requires
+facilities-requires c κs = search needs
+
+services-requires : tie.Need-services-requires
+services-requires c κs = search needs
+
+wide-requires : tie.Need-wide-requires
+wide-requires c κs = search needs
+
+in-force-requires : tie.Need-in-force-requires
+in-force-requires c κs =
+    let i = inside (c .before .before .before .before .before .before) in
+    let s = c .before .before .before .before .before .before .before .before .before in
+    rw (c .before .before .facilities .ensures, c .before .services .ensures, c .wide .ensures, i .0) (s .pre .0 .sized, s .pre .1, s .pre .2, i .1)
+
+gate-number-requires : tie.Need-gate-number-requires
+gate-number-requires c κs =
+    let i = inside (c .before .before .before .before .before .before .before) in
+    let s = c .before .before .before .before .before .before .before .before .before .before in
+    (s .pre .0, s .pre .1, c .in-force .ensures .1, rw (i .0) (i .1), s .pre .3)
+
+returns-3 : tie.Need-returns-3
+returns-3 c =
+    let i = inside (c .before .before .before .before .before .before .before .before) in
+    let s = c .before .before .before .before .before .before .before .before .before .before .before in
     let w = s .args .book .now in
     let f = s .args .f in
     let o = s .args .offer .now in
@@ -110,9 +123,12 @@ variation-number-spec =
     variation-rules-number-requires
     returns
     nat-requires
+    clock-requires
+    is-before-closure-requires
+    returns-2
     facilities-requires
     services-requires
     wide-requires
     in-force-requires
     gate-number-requires
-    returns-2)
+    returns-3)
