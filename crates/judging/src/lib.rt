@@ -8,6 +8,7 @@ ghost use lib.ListN.{length};
 ghost use lib.Dec.{eqb};
 ghost use lib.IntN.{pos};
 ghost use Rattle.offer_rules.specs.Numbers.{toNat, word, draw, _then_};
+ghost use Rattle.offer_rules.specs.Time.{slot-refused};
 ghost use Rattle.offer_rules.specs.Offer.{pairs, standing-rules, variation-rules};
 ghost use Rattle.offer_rules.specs.Gate.{gate-refuses};
 ghost use Rattle.book_rules.specs.Words.{part, clock-place, limits-place, facility-place};
@@ -119,6 +120,22 @@ pub fn period_number(book: &[i32], period: i32) -> u8
 }
 
 // ---- a standing offer
+
+// 5, 9 and 10: what needs no word of the offer.
+pub fn standing_due_number(book: &[i32], f: usize, service: u8, slot: i32) -> u8
+    requires { ⌜ Usable (now book) × (f < facilities-in (now book)) × (service < services-in (now book)) ⌝ }
+    ensures { λ r. ⌜ (r ≡ (facility-number (part (facility-place f) 17 (now (book .entry))) then registration-number (part (facility-place f) 17 (now (book .entry))) service then draw (slot-refused slot) 10)) × (r ≤ 10) ⌝ }
+{
+    let kind = kind_number(book, f);
+    if kind != 0 {
+        return kind;
+    }
+    let mark = mark_number(book, f, service);
+    if mark != 0 {
+        return mark;
+    }
+    draw_if(offers::is_slot_refused(slot), 10)
+}
 
 // 17 and 18, over the offer held in the cell at a place.
 fn revision_over(book: &[i32], at: usize, slot: usize, offer: &[i32]) -> u8
