@@ -195,6 +195,44 @@ static struct record above_for(struct key k, int step)
     return r;
 }
 
+static struct record no_kind_for(struct key k, int step)
+{
+    struct record r = capability_for(k, step);
+    set_w(&r, 0, 3);
+    return r;
+}
+
+static struct record last_mark_for(struct key k, int step)
+{
+    struct record r = capability_for(k, step);
+    set_w(&r, 16, 2);
+    return r;
+}
+
+static struct record first_price_for(struct key k, int step)
+{
+    struct record r = variation_for(k, step);
+    set_pair(&r, 0, 20000000, 20);
+    return r;
+}
+
+static struct record long_outage_for(struct key k, int step) { (void)step; return outage_of(k.f, NOW, 49); }
+static struct record begun_look_up_for(struct key k, int step) { k.period = FIRST_PERIOD - 1; return look_up_for(k, step); }
+static struct record begun_total_for(struct key k, int step) { k.period = FIRST_PERIOD - 1; return total_for(k, step); }
+
+static struct record no_facility_for(struct key k, int step)
+{
+    k.f = F;
+    return variation_for(k, step);
+}
+
+static struct record no_slot_for(struct key k, int step)
+{
+    struct record r = standing_for(k, step);
+    set_word(&r, BILZHAAN_AT_PERIOD, BILZHAAN_WEEK_SLOTS);
+    return r;
+}
+
 static struct record begun_for(struct key k, int step)
 {
     k.period = FIRST_PERIOD - 1;
@@ -247,21 +285,32 @@ static void make_kinds(void)
 
     add_one("1 clock", 0, clock_at(NOW));
     add_calls("2 capability", 0, energy_keys, keys, 1, capability_for);
+    add_one("1 clock, backwards", 6, clock_at(NOW - 1));
+    add_calls("2 capability, no such kind", 8, energy_keys, keys, 1, no_kind_for);
+    add_calls("2 capability, last word wrong", 8, energy_keys, keys, 1, last_mark_for);
     add_calls("3 standing, energy", 0, energy_keys, keys, 2, standing_for);
     add_calls("3 standing, reserve", 0, reserve_keys, keys, 2, standing_for);
     add_calls("3 standing, prices don't rise", 13, energy_keys, keys, 1, falling_for);
     add_calls("3 standing, above capacity", 16, energy_keys, keys, 1, above_for);
+    add_calls("3 standing, no such slot", 10, energy_keys, keys, 1, no_slot_for);
     add_calls("4 variation, gate open, energy", 0, energy_keys, keys, 2, variation_for);
     add_calls("4 variation, gate open, reserve", 0, reserve_keys, keys, 2, variation_for);
     add_calls("4 variation, inside gate closure", 0, gate_keys, in_gate, 1, inside_gate_for);
     add_calls("4 variation, last tenths differ", 17, gate_keys, in_gate, 1, last_tenths_differ_for);
     add_calls("4 variation, period begun", 10, energy_keys, keys, 1, begun_for);
+    add_calls("4 variation, first price too high", 11, energy_keys, keys, 1, first_price_for);
+    add_calls("4 variation, no such facility", 3, energy_keys, keys, 1, no_facility_for);
+    add_calls("5 outage, too long", 7, energy_keys, keys, 1, long_outage_for);
     add_calls("5 outage", 0, energy_keys, keys, 2, outage_for);
     add_one("6 notice", 0, notice_of(BILZHAAN_NOTICE_SHORTFALL, FIRST_PERIOD, FIRST_PERIOD + 4));
+    add_one("6 notice, empty", 7, notice_of(BILZHAAN_NOTICE_SHORTFALL, FIRST_PERIOD + 4, FIRST_PERIOD));
+    add_one("7 withdrawal, another kind", 7, withdrawal_of(BILZHAAN_NOTICE_SHORTFALL));
     add_one("7 withdrawal", 0, withdrawal_of(BILZHAAN_NOTICE_SYSTEM_STATUS));
     add_calls("8 look-up, variation", 0, energy_keys, keys, 1, look_up_for);
     add_calls("8 look-up, standing", 0, read_keys, keys, 1, look_up_for);
     add_calls("8 look-up, nothing in force", 19, energy_keys, keys, 1, nothing_for);
+    add_calls("8 look-up, period begun", 10, energy_keys, keys, 1, begun_look_up_for);
+    add_calls("9 total, period begun", 10, total_keys, TOTAL_KEYS, 1, begun_total_for);
     add_calls("9 total, 64 facilities", 0, total_keys, TOTAL_KEYS, 1, total_for);
     add_calls("unused byte not zero", 4, energy_keys, keys, 1, last_byte_for);
     add_one("record of 111 bytes", 2, clock_at(NOW))->length = 111;

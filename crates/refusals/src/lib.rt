@@ -158,11 +158,10 @@ pub fn withdrawal_number(kind: u8) -> u8
 // ---- 8: standing capability data
 
 // "kind not 1 or 2 or unlike a held 1 or 2"
-fn is_kind_refused(held: &[i32], sent: &[i32]) -> bool
-    requires { ⌜ (length (now held) ≡ 17) × (length (now sent) ≡ 17) ⌝ }
-    ensures { λ r. ⌜ r ≡ (not (has-kind (now (sent .entry))) || (has-kind (now (held .entry)) && not (eqZ (kind-of (now (held .entry))) (kind-of (now (sent .entry)))))) ⌝ }
+pub fn is_kind_refused(held: &[i32], kind: i32) -> bool
+    requires { ⌜ length (now held) ≡ 17 ⌝ }
+    ensures { λ r. ⌜ r ≡ (not (is-generation kind || is-load kind) || (has-kind (now (held .entry)) && not (eqZ (kind-of (now (held .entry))) kind))) ⌝ }
 {
-    let kind = sent[KIND];
     !has_kind(kind) | (has_kind(held[KIND]) & !is_word(held, KIND, kind))
 }
 
@@ -199,7 +198,7 @@ pub fn capability_number(held: &[i32], sent: &[i32]) -> u8
     requires { ⌜ (length (now held) ≡ 17) × (length (now sent) ≡ 17) ⌝ }
     ensures { λ r. ⌜ (r ≡ capability-number (now (held .entry)) (now (sent .entry))) × (r ≤ 8) ⌝ }
 {
-    let kind = is_kind_refused(held, sent);
+    let kind = is_kind_refused(held, sent[KIND]);
     let maximum = is_maximum_refused(sent);
     let mark = is_mark_refused(sent);
     draw_if((kind | maximum) | mark, 8)

@@ -1,9 +1,14 @@
 -- capability_number: 8, by kind, maxima and marks.
 use mathlib.Core.Path.{_∙_}
-use Rattle.book_rules.specs.Refusals.{capability-number}
+use Rattle.units.proofs.Counts.{word-back}
+use Rattle.offer_rules.specs.Numbers.{word}
+use Rattle.book_rules.specs.Refusals.{has-kind, capability-number}
 use borrow.Author.Needs.{needs}
 use Rattle.refusals.proofs.capability_number.Statement.{statement}
 use Rattle.refusals.proofs.capability_number.Tie as tie
+
+shared-slice-copy-out-is-kind-refused : tie.Need-shared-slice-copy-out-is-kind-refused
+shared-slice-copy-out-is-kind-refused c = search needs
 
 is-kind-refused-requires : tie.Need-is-kind-refused-requires
 is-kind-refused-requires c κs = search needs
@@ -18,11 +23,12 @@ draw-if-requires : tie.Need-draw-if-requires
 draw-if-requires c κs = search needs
 
 returns : tie.Need-returns
-unfolding capability-number
+unfolding has-kind capability-number
 returns c = (
   c .draw-if .ensures .0
       ∙ rw (
         c .before .before .before .is-kind-refused .ensures,
+        word-back (word (c .before .before .before .before .before .args .sent .now) 0) (c .before .before .before .before .is-kind-refused-arg .given),
         c .before .before .is-maximum-refused .ensures,
         c .before .is-mark-refused .ensures,
       ),
@@ -33,6 +39,7 @@ pub capability-number-spec : {M : Type 1} → statement M
 capability-number-spec =
     tie.close
     (tie.spec
+    shared-slice-copy-out-is-kind-refused
     is-kind-refused-requires
     is-maximum-refused-requires
     is-mark-refused-requires

@@ -1,13 +1,12 @@
--- is_kind_refused: by the two kinds that are read.
+-- is_kind_refused: by the kind that is sent and the one that is held.
+use mir.Syntax.{w32}
+use mir.Facts.{toZ-ofZ}
 use Rattle.units.proofs.Counts.{word-back}
 use Rattle.offer_rules.specs.Numbers.{word}
 use Rattle.book_rules.specs.Refusals.{has-kind}
 use borrow.Author.Needs.{needs}
 use Rattle.refusals.proofs.is_kind_refused.Statement.{statement}
 use Rattle.refusals.proofs.is_kind_refused.Tie as tie
-
-shared-slice-copy-out-kind : tie.Need-shared-slice-copy-out-kind
-shared-slice-copy-out-kind c = search needs
 
 has-kind-requires : tie.Need-has-kind-requires
 has-kind-requires c κs = search needs
@@ -24,13 +23,12 @@ is-word-requires c κs = search needs
 returns : tie.Need-returns
 unfolding has-kind
 returns c =
-    let k = c .before .before .before .before in
-    let s = k .before in
+    let s = c .before .before .before .before in
     rw (
       c .before .before .before .has-kind .ensures,
       c .before .has-kind2 .ensures,
       c .is-word .ensures,
-      word-back (word (s .args .sent .now) 0) (k .kind .given),
+      toZ-ofZ {w = w32} (s .fits .kind),
       word-back (word (s .args .held .now) 0) (c .before .before .has-kind-arg .given),
     )
 
@@ -38,7 +36,6 @@ pub is-kind-refused-spec : {M : Type 1} → statement M
 is-kind-refused-spec =
     tie.close
     (tie.spec
-    shared-slice-copy-out-kind
     has-kind-requires
     shared-slice-copy-out-has-kind
     has-kind-requires-2
