@@ -2,20 +2,21 @@
 use mathlib.Core.Path.{_≡_, refl, sym, ap, _∙_, subst}
 use mathlib.Core.Bool.{Bool, true, false, not, cond, _&&_, _||_}
 use mathlib.Core.List.{List, [], _∷_}
-use Prim.Native.Nat.{ℕ, _+_, _*_, _<_, _≤_}
+use Prim.Native.Nat.{ℕ, zero, suc, _+_, _*_, _<_, _≤_}
 use native.Mathlib.Omega.{arith}
-use borrow.Author.Tests.{eqb-true}
-use lib.Dec.{T}
-use lib.ListN.{length, drop}
+use borrow.Author.Tests.{ltb-false, eqb-true}
+use lib.Dec.{T, eqb}
+use lib.ListN.{length, getD, drop}
+use lib.Signed.{ltZ}
 use lib.IntN.{ℤ, pos, negsuc, natAbs, _+ℤ_, +ℤ-assoc, +ℤ-idl, +ℤ-idr}
-use Rattle.offer_rules.specs.Numbers.{eqZ}
+use Rattle.offer_rules.specs.Numbers.{eqZ, beyond, any-beyond}
 use Rattle.offer_rules.specs.Offer.{Pair, pairs-in, is-blank, sum-of, lowest-price, highest-price, any-pair, pair-out-of-range, is-priced-blank, non-blank-prices, rises}
 use Rattle.units.specs.Typed.{price-of, quantity-of}
 use Rattle.units.specs.declared.Price.{Price}
 use Rattle.units.specs.declared.Quantity.{Quantity}
 use Rattle.units.proofs.Adding.{abs-add}
 use Rattle.offers.specs.declared.pairs.Findings.{Findings}
-use Rattle.offers.specs.PairTests.{blank, outside, still-rises, with-blank, with-filled, with-pair, none-yet, refused, found-from, found-in}
+use Rattle.offers.specs.PairTests.{blank, outside, still-rises, with-blank, with-filled, with-pair, none-yet, refused, found-from, found-in, do-five-suffice}
 use Rattle.offers.proofs.Pairing.{pair-at, pairs-from, pairs-end}
 
 -- ---- the walk, turn by turn
@@ -184,3 +185,62 @@ found-are limits s l h =
       ap (λ (f : Findings). f .rises) e ∙ walked-rises none-yet l,
       ap (λ (f : Findings). f .total .0) e ∙ walked-total none-yet l ∙ +ℤ-idl (sum-of l),
     )
+
+-- ---- a short walk: pairs without a price and a quantity change nothing
+
+with-empty : (f : Findings) → with-pair f (price-of (pos 0)) (quantity-of (pos 0)) ≡ f
+unfolding with-blank
+with-empty f =
+    ap (λ (t : Bool). record { outside = f .outside; priced = t; rises = f .rises; any = f .any; last = f .last; total = f .total })
+    (sym (or-false (f .priced)))
+
+neither : (x y : Bool) → (x || y) ≡ false → (x ≡ false) × (y ≡ false)
+neither true y h = absurd (subst T h tt)
+neither false y h = (refl, h)
+
+both : (x y : Bool) → (x && y) ≡ true → (x ≡ true) × (y ≡ true)
+both true y h = (refl, h)
+both false y h = absurd (subst T (sym h) tt)
+
+neither-of : (x y : Bool) → (not x && not y) ≡ true → (x ≡ false) × (y ≡ false)
+neither-of false false h = (refl, refl)
+neither-of false true h = absurd (subst T (sym h) tt)
+neither-of true y h = absurd (subst T (sym h) tt)
+
+-- a word that is not outside 0 to 0
+word-zero : (z : ℤ) → beyond (pos 0) (pos 0) z ≡ false → z ≡ pos 0
+word-zero (pos n) h =
+    let e = ltb-false 0 n (neither (ltZ (pos n) (pos 0)) (ltZ (pos 0) (pos n)) h .1) in
+    ap pos (omega arith)
+word-zero (negsuc n) h = absurd (subst T h tt)
+
+-- two words of some that are all 0
+two-zero : (ws : List ℤ) (i n : ℕ) → any-beyond (pos 0) (pos 0) ws i (suc (suc n)) ≡ false
+    → (getD ws i (pos 0) ≡ pos 0) × (getD ws (suc i) (pos 0) ≡ pos 0) × (any-beyond (pos 0) (pos 0) ws (suc (suc i)) n ≡ false)
+unfolding any-beyond
+two-zero ws i n h =
+    let a = neither (beyond (pos 0) (pos 0) (getD ws i (pos 0))) (any-beyond (pos 0) (pos 0) ws (suc i) (suc n)) h in
+    let b = neither (beyond (pos 0) (pos 0) (getD ws (suc i) (pos 0))) (any-beyond (pos 0) (pos 0) ws (suc (suc i)) n) (a .1) in
+    (word-zero (getD ws i (pos 0)) (a .0), word-zero (getD ws (suc i) (pos 0)) (b .0), b .1)
+
+module _ (lowest highest : Price) (f : Findings) (ws : List ℤ) (not-out : outside lowest highest (price-of (pos 0)) (quantity-of (pos 0)) ≡ false) where
+  -- the last k pairs, from the i-th on
+  empty-change-nothing : (k i : ℕ) → length ws ≡ 2 * (i + k) → any-beyond (pos 0) (pos 0) ws (2 * i) (2 * k) ≡ false → found-from lowest highest f (pairs-in (drop (2 * i) ws)) ≡ f
+  empty-change-nothing zero i h z = found-whole lowest highest f ws (2 * i) (omega arith)
+  empty-change-nothing (suc k) i h z =
+      let a : 2 * suc k ≡ suc (suc (2 * k)) = omega arith in
+      let b : 2 * (i + 1) ≡ suc (suc (2 * i)) = omega arith in
+      let s : 2 * i + 1 ≡ suc (2 * i) = omega arith in
+      let t = two-zero ws (2 * i) (2 * k) (rw a at z) in
+      found-goes-on lowest highest f ws i (price-of (pos 0)) (quantity-of (pos 0)) (omega arith) (ap price-of (sym (t .0))) (ap quantity-of (sym (t .1) ∙ ap (λ (n : ℕ). getD ws n (pos 0)) (sym s))) not-out
+      ∙ ap (λ (g : Findings). found-from lowest highest g (pairs-in (drop (2 * (i + 1)) ws))) (with-empty f)
+      ∙ empty-change-nothing k (i + 1) (omega arith) (rw b (t .2))
+
+-- at the sixth pair
+pub found-in-five : (lowest highest : Price) (f : Findings) (ws : List ℤ) (i : ℕ) (short : Bool)
+    → length ws ≡ 20 → (short ≡ true → do-five-suffice lowest highest ws ≡ true) → (eqb i 5 && short) ≡ true → found-from lowest highest f (pairs-in (drop (2 * i) ws)) ≡ f
+unfolding do-five-suffice
+found-in-five lowest highest f ws i short h five t =
+    let a = both (eqb i 5) short t in
+    let z = neither-of (outside lowest highest (price-of (pos 0)) (quantity-of (pos 0))) (any-beyond (pos 0) (pos 0) ws 10 10) (five (a .1)) in
+    rw (eqb-true i 5 (a .0)) (empty-change-nothing lowest highest f ws (z .0) 5 5 h (z .1))

@@ -4,7 +4,7 @@ use mathlib.Core.Bool.{Bool, true, false, not, cond, _&&_, _||_}
 use mathlib.Core.List.{List, [], _∷_}
 use lib.IntN.{ℤ, pos, _+ℤ_}
 use lib.Signed.{ltZ}
-use Rattle.offer_rules.specs.Numbers.{eqZ, beyond}
+use Rattle.offer_rules.specs.Numbers.{eqZ, beyond, any-beyond}
 use Rattle.offer_rules.specs.Offer.{Pair}
 use Rattle.units.specs.Typed.{price-of, quantity-of}
 use Rattle.units.specs.declared.Price.{Price}
@@ -60,3 +60,7 @@ found-from lowest highest f (x ∷ l) =
 
 abbrev pub found-in : Price → Price → List Pair → Findings
 found-in lowest highest l = found-from lowest highest none-yet l
+
+-- Words 10 to 19, the last five of ten pairs, are all 0, and 11 doesn't refuse such a pair: then they change nothing.
+unfoldable pub do-five-suffice : Price → Price → List ℤ → Bool
+do-five-suffice lowest highest ws = not (outside lowest highest (price-of (pos 0)) (quantity-of (pos 0))) && not (any-beyond (pos 0) (pos 0) ws 10 10)

@@ -1,14 +1,17 @@
 // The pairs of an offer: ten quantities added, and the tests of refusals 11 to 13.
 // Prices and quantities have types of their own, so that neither is taken for the other.
 ghost use mathlib.Core.Path.{_≡_};
+ghost use mathlib.Core.Bool.{true, not};
 ghost use Prim.Native.Nat.{_≤_};
-ghost use lib.IntN.{natAbs, _+ℤ_};
+ghost use lib.IntN.{pos, natAbs, _+ℤ_};
 ghost use lib.ListN.{length};
+ghost use Rattle.offer_rules.specs.Numbers.{any-beyond};
 ghost use Rattle.offer_rules.specs.Offer.{pairs-in, pairs, sum-of, lowest-price, highest-price};
 ghost use Rattle.units.specs.Typed.{price-of};
-ghost use Rattle.offers.specs.PairTests.{blank, outside, still-rises, with-blank, with-filled, with-pair, found-in};
+ghost use Rattle.offers.specs.PairTests.{blank, outside, still-rises, with-blank, with-filled, with-pair, found-in, do-five-suffice};
 use units::Price;
 use units::Quantity;
+use units::any_beyond;
 use units::is_beyond;
 use units::is_zero;
 use units::price_at;
@@ -120,9 +123,29 @@ fn with_pair(f: Findings, price: Price, quantity: Quantity) -> Findings
     with_filled(f, price, quantity)
 }
 
-// The walk ends at the first pair that 11 refuses: no number below 11 is left to be drawn from pairs.
-fn findings_in(lowest: Price, highest: Price, pairs: &[i32]) -> Findings
+// Pairs six to ten have neither a price nor a quantity.
+fn are_last_five_empty(pairs: &[i32]) -> bool
     requires { ⌜ length (now pairs) ≡ 20 ⌝ }
+    ensures { λ r. ⌜ r ≡ not (any-beyond (pos 0) (pos 0) (now (pairs .entry)) 10 10) ⌝ }
+{
+    !any_beyond(pairs, 10, 10, 0, 0)
+}
+
+// Whether the walk may end after five pairs. Services 1 to 4 use no more; energy may use ten, so it isn't tested.
+fn do_five_suffice(lowest: Price, highest: Price, service: u8, pairs: &[i32]) -> bool
+    requires { ⌜ length (now pairs) ≡ 20 ⌝ }
+    ensures { λ r. ⌜ (r ≡ true → do-five-suffice lowest highest (now (pairs .entry)) ≡ true) ⌝ }
+{
+    if service == 0 {
+        return false;
+    }
+    !is_out_of_range(lowest, highest, Price(0), Quantity(0)) & are_last_five_empty(pairs)
+}
+
+// The walk ends at the first pair that 11 refuses: no number below 11 is left to be drawn from pairs.
+// It is short, and ends after five pairs, where the others would change nothing.
+fn findings_in(lowest: Price, highest: Price, pairs: &[i32], short: bool) -> Findings
+    requires { ⌜ (length (now pairs) ≡ 20) × (short ≡ true → do-five-suffice lowest highest (now pairs) ≡ true) ⌝ }
     ensures { λ r. ⌜ r ≡ found-in lowest highest (pairs-in (now (pairs .entry))) ⌝ }
 {
     let mut f = Findings {
@@ -134,6 +157,9 @@ fn findings_in(lowest: Price, highest: Price, pairs: &[i32]) -> Findings
         total: Sum(0),
     };
     for i in 0..10usize {
+        if (i == 5) & short {
+            return f;
+        }
         let price = price_at(pairs, 2 * i);
         let quantity = quantity_at(pairs, 2 * i + 1);
         if is_out_of_range(lowest, highest, price, quantity) {
@@ -174,9 +200,9 @@ pub fn findings_of(limits: &[i32], service: u8, offer: &[i32]) -> Findings
     requires { ⌜ (length (now limits) ≡ 6) × (service ≤ 4) × (length (now offer) ≡ 23) ⌝ }
     ensures { λ r. ⌜ r ≡ found-in (price-of (lowest-price (now (limits .entry)) service)) (price-of (highest-price (now (limits .entry)) service)) (pairs (now (offer .entry))) ⌝ }
 {
-    findings_in(
-        lowest_price(limits, service),
-        highest_price(limits, service),
-        &offer[3..],
-    )
+    let lowest = lowest_price(limits, service);
+    let highest = highest_price(limits, service);
+    let pairs = &offer[3..];
+    let short = do_five_suffice(lowest, highest, service, pairs);
+    findings_in(lowest, highest, pairs, short)
 }

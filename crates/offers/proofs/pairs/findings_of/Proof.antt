@@ -9,22 +9,25 @@ lowest-price-requires c κs = search needs
 highest-price-requires : tie.Need-highest-price-requires
 highest-price-requires c κs = search needs
 
-sub-findings-in : tie.Need-sub-findings-in
-sub-findings-in c = search needs
+sub-pairs : tie.Need-sub-pairs
+sub-pairs c = search needs
 
-part-findings-in-start : tie.Need-part-findings-in-start
-part-findings-in-start c = search needs
+part-pairs-start : tie.Need-part-pairs-start
+part-pairs-start c = search needs
 
-part-findings-in-end : tie.Need-part-findings-in-end
-part-findings-in-end c = search needs
+part-pairs-end : tie.Need-part-pairs-end
+part-pairs-end c = search needs
+
+do-five-suffice-requires : tie.Need-do-five-suffice-requires
+do-five-suffice-requires c κs = search needs
 
 findings-in-requires : tie.Need-findings-in-requires
 findings-in-requires c κs = search needs
 
 returns : tie.Need-returns
 returns c =
-    let s = c .before .before .before .before in
-    rw (c .findings-in .ensures, c .before .before .before .lowest-price .ensures, c .before .before .highest-price .ensures, pairs-lent (s .args .offer .now))
+    let h = c .before .before .before in
+    rw (c .findings-in .ensures, h .before .lowest-price .ensures, h .highest-price .ensures, pairs-lent (h .before .before .args .offer .now))
 
 pub findings-of-spec : {M : Type 1} → statement M
 findings-of-spec =
@@ -32,8 +35,9 @@ findings-of-spec =
     (tie.spec
     lowest-price-requires
     highest-price-requires
-    sub-findings-in
-    part-findings-in-start
-    part-findings-in-end
+    sub-pairs
+    part-pairs-start
+    part-pairs-end
+    do-five-suffice-requires
     findings-in-requires
     returns)
