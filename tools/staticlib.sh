@@ -8,12 +8,16 @@ for tool in rt ar; do
     command -v "$tool" >/dev/null || { echo "$tool is not on the PATH" >&2; exit 2; }
 done
 
-rt staticlib record
-rt staticlib bilzhaan
+crates="record opening book"
+for crate in $crates; do
+    rt staticlib "$crate"
+done
 parts=$(mktemp -d)
 trap 'rm -rf "$parts"' EXIT
 here=$PWD
-(cd "$parts" && ar x "$here/target/staticlib/librecord.a" && ar x "$here/target/staticlib/libbilzhaan.a")
+for crate in $crates; do
+    (cd "$parts" && ar x "$here/target/staticlib/lib$crate.a")
+done
 rm -f target/libbilzhaan.a
 ar rcsD target/libbilzhaan.a "$parts"/*.o
 echo "target/libbilzhaan.a"

@@ -1,6 +1,6 @@
 -- What refusals 1 to 4 leave to a call: a usable book, 112 bytes, a call from 1 to 9, and that what it names lies in the book.
-use mathlib.Core.Path.{_≡_, refl}
-use mathlib.Core.Bool.{true, not, _&&_}
+use mathlib.Core.Path.{_≡_, refl, sym, ap, _∙_}
+use mathlib.Core.Bool.{Bool, true, false, not, _&&_}
 use mathlib.Core.List.{List}
 use Prim.Native.Nat.{ℕ, _<_}
 use native.Mathlib.Omega.{arith}
@@ -11,12 +11,16 @@ use borrow.Author.Tests.{eqb-true, not-false}
 use Rattle.offer_rules.proofs.Drawn.{and-left, then-zero, draw-zero}
 use Rattle.book_rules.specs.Record.{byte, call-of, service-of, between, is-record, record-number}
 use Rattle.book_rules.specs.Words.{book-size, is-book}
+use Rattle.book_rules.specs.Force.{plain}
 use Rattle.book_rules.specs.Book.{facilities-in, services-in}
 use Rattle.book_rules.proofs.Calls.{Which, named, capability-uses, standing-uses, variation-uses, outage-uses, look-up-uses, total-uses}
+use Rattle.book_rules.proofs.OneCall.{unusable, turned-away}
 use Rattle.opening.specs.Usable as opening
 use Rattle.opening.proofs.UsableBooks as books
 use Rattle.judging.specs.Usable.{Usable}
 use Rattle.judging.specs.Tested.{Tested, Facility, Place}
+use Rattle.judging.proofs.Answering.{Answers}
+use Rattle.book.specs.Tests.{tested-number}
 
 -- Refusal 1.
 pub usable : (w : List ℤ) → is-book w ≡ true → Usable w
@@ -45,8 +49,29 @@ length-is b F S e =
     let r = not-false (is-record b) (draw-zero (not (is-record b)) 2 (omega arith) (then-zero _ _ e .0)) in
     eqb-true (length b) 112 (and-left (eqb (length b) 112) head (and-left (eqb (length b) 112 && head) rest r))
 
-pub tested : (w : List ℤ) (b : List ℕ) → is-book w ≡ true → record-number b (facilities-in w) (services-in w) ≡ 0 → Tested w b
-tested w b e z = record { usable = usable w e; is-taken = z; long = length-is b (facilities-in w) (services-in w) z }
+-- A number is drawn: it is answered alone, and nothing is written.
+pub turned-down : (w : List ℤ) (b : List ℕ) (n : ℕ) → n ≡ tested-number w b → (n ≡ 0 → ⊥) → Answers w b (plain n) w
+turned-down w b n e h = go (is-book w) refl
+  where
+    go : (t : Bool) → is-book w ≡ t → Answers w b (plain n) w
+    go true u =
+        let k : n ≡ record-number b (facilities-in w) (services-in w) = e ∙ rw u in
+        let x = turned-away w b u (λ z. h (k ∙ z)) in
+        (ap plain k ∙ sym (x .0), sym (x .1))
+    go false u =
+        let k : n ≡ 1 = e ∙ rw u in
+        let x = unusable w b u in
+        (ap plain k ∙ sym (x .0), sym (x .1))
+
+-- None is drawn.
+pub passed : (w : List ℤ) (b : List ℕ) → 0 ≡ tested-number w b → Tested w b
+passed w b e = go (is-book w) refl
+  where
+    go : (t : Bool) → is-book w ≡ t → Tested w b
+    go true u =
+        let z : record-number b (facilities-in w) (services-in w) ≡ 0 = sym (e ∙ rw u) in
+        record { usable = usable w u; is-taken = z; long = length-is b (facilities-in w) (services-in w) z }
+    go false u = let z : _≡_ {A = ℕ} 0 1 = e ∙ rw u in absurd (omega arith)
 
 -- ---- what the call names
 

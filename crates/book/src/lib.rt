@@ -1,8 +1,8 @@
-// The book: one call on lent words by a record's bytes. `call` asks nothing of either; the functions it uses ask what it has tested.
+// The book: one call on lent words by a record's bytes. `bilzhaan_call` asks nothing of either; the functions it uses ask what it has tested.
 ghost use mathlib.Core.Path.{_≡_};
 ghost use Rattle.book_rules.specs.Book.{book-answer, book-after};
 ghost use Rattle.cells.specs.Meaning.{answer-of};
-ghost use Rattle.judging.specs.Tested.{Tested};
+ghost use Rattle.book.specs.Tests.{tested-number};
 use cells::Answer;
 use cells::plain;
 use judging::facilities;
@@ -22,36 +22,44 @@ use writing::withdrawal_call;
 // The byte that names the call.
 const CALL_BYTE: usize = 5;
 
-// "Byte 5 selects among nine calls". Refusal 2 leaves no other.
-fn carry_out(book: &mut [i32], bytes: &[u8]) -> Answer
-    requires { ⌜ Tested (now book) (now bytes) ⌝ }
-    ensures { λ r. ⌜ (answer-of r ≡ book-answer (now (book .entry)) (now (bytes .entry))) × (now (book .exit) ≡ book-after (now (book .entry)) (now (bytes .entry))) ⌝ }
-{
-    let call = bytes[CALL_BYTE];
-    match call {
-        1 => clock_call(book, bytes),
-        2 => capability_call(book, bytes),
-        3 => standing_call(book, bytes),
-        4 => variation_call(book, bytes),
-        5 => outage_call(book, bytes),
-        6 => notice_call(book, bytes),
-        7 => withdrawal_call(book, bytes),
-        8 => look_up_call(book, bytes),
-        9 => total_call(book, bytes),
-        0 | 10..=255 => plain(2),
-    }
-}
-
-// One call, for every words and every bytes: 1, then 2 to 4, then the call's own.
-pub fn call(book: &mut [i32], bytes: &[u8]) -> Answer
-    ensures { λ r. ⌜ (answer-of r ≡ book-answer (now (book .entry)) (now (bytes .entry))) × (now (book .exit) ≡ book-after (now (book .entry)) (now (bytes .entry))) ⌝ }
+// 1, then 2 to 4; else 0.
+fn tested_number(book: &[i32], bytes: &[u8]) -> u8
+    ensures { λ r. ⌜ r ≡ tested-number (now (book .entry)) (now (bytes .entry)) ⌝ }
 {
     if !is_book(book) {
-        return plain(1);
+        return 1;
     }
-    let number = record_number(bytes, facilities(book) as u64, services(book) as u64);
+    record_number(bytes, facilities(book) as u64, services(book) as u64)
+}
+
+// One call, for every words and every bytes: 1 to 4, then the call's own. "Byte 5 selects among nine calls"; refusal 2 leaves no other.
+// Each case returns its answer itself: answers that meet in a local are copied from there to the caller's 112 bytes.
+#[no_mangle]
+pub extern "C" fn bilzhaan_call(words: &mut [i32], bytes: &[u8]) -> Answer
+    ensures { λ r. ⌜ (answer-of r ≡ book-answer (now (words .entry)) (now (bytes .entry))) × (now (words .exit) ≡ book-after (now (words .entry)) (now (bytes .entry))) ⌝ }
+{
+    let number = tested_number(words, bytes);
     if 0 < number {
         return plain(number);
     }
-    carry_out(book, bytes)
+    let call = bytes[CALL_BYTE];
+    match call {
+        1 => return plain(clock_call(words, bytes)),
+        2 => return plain(capability_call(words, bytes)),
+        3 => return plain(standing_call(words, bytes)),
+        4 => return plain(variation_call(words, bytes)),
+        5 => return plain(outage_call(words, bytes)),
+        6 => return plain(notice_call(words, bytes)),
+        7 => return plain(withdrawal_call(words, bytes)),
+        8 => return look_up_call(words, bytes),
+        9 => return total_call(words, bytes),
+        0 | 10..=255 => return plain(2),
+    }
+}
+
+// The call for Rattle programs.
+pub fn call(book: &mut [i32], bytes: &[u8]) -> Answer
+    ensures { λ r. ⌜ (answer-of r ≡ book-answer (now (book .entry)) (now (bytes .entry))) × (now (book .exit) ≡ book-after (now (book .entry)) (now (bytes .entry))) ⌝ }
+{
+    bilzhaan_call(book, bytes)
 }

@@ -15,18 +15,18 @@ use Rattle.judging.specs.Tested.{Tested}
 abbrev pub Answers : List ℤ → List ℕ → Answer → List ℤ → Type 0
 Answers w b a v = (a ≡ book-answer w b) × (v ≡ book-after w b)
 
-module _ (w : List ℤ) (b : List ℕ) (t : Tested w b) (a : Answer) where
+module _ (w : List ℤ) (b : List ℕ) (t : Tested w b) where
   -- A number is drawn: it is answered alone, and nothing is written.
-  pub refused : (n : ℕ) → judge (book-view w) b ≡ n → (n ≡ 0 → ⊥) → a ≡ plain n → Answers w b a w
-  refused n e h p = let x = refused-call w b (t .usable .is-usable) (t .is-taken) n e h in (p ∙ sym (x .0), sym (x .1))
+  pub refused : (n : ℕ) → judge (book-view w) b ≡ n → (n ≡ 0 → ⊥) → Answers w b (plain n) w
+  refused n e h = let x = refused-call w b (t .usable .is-usable) (t .is-taken) n e h in (sym (x .0), sym (x .1))
 
-  -- None is drawn by a call that files.
-  pub filed : (k : ℕ) → call-of b ≡ k → k ≤ 7 → judge (book-view w) b ≡ 0 → a ≡ plain 0 → (v : List ℤ) → v ≡ book-accept w b → Answers w b a v
-  filed k c h e p v q = let x = accepted-filing w b (t .usable .is-usable) (t .is-taken) k c h e in (p ∙ sym (x .0), q ∙ sym (x .1))
+  -- None is drawn by a call that files: 0 is answered alone.
+  pub filed : (k : ℕ) → call-of b ≡ k → k ≤ 7 → judge (book-view w) b ≡ 0 → (v : List ℤ) → v ≡ book-accept w b → Answers w b (plain 0) v
+  filed k c h e v q = let x = accepted-filing w b (t .usable .is-usable) (t .is-taken) k c h e in (sym (x .0), q ∙ sym (x .1))
 
   -- None is drawn by a call that reads.
-  pub read : judge (book-view w) b ≡ 0 → a ≡ reply (book-view w) b → a ≡ book-answer w b
-  read e p = let x = accepted-call w b (t .usable .is-usable) (t .is-taken) e in p ∙ sym (x .0)
+  pub read : (a : Answer) → judge (book-view w) b ≡ 0 → a ≡ reply (book-view w) b → a ≡ book-answer w b
+  read a e p = let x = accepted-call w b (t .usable .is-usable) (t .is-taken) e in p ∙ sym (x .0)
 
 -- A call that reads leaves the words, whatever it draws.
 pub unwritten : (w : List ℤ) (b : List ℕ) → Tested w b → (k : ℕ) → call-of b ≡ k → 8 ≤ k → w ≡ book-after w b

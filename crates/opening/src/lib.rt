@@ -155,3 +155,17 @@ pub fn open(book: &mut [i32], facilities: i32, services: i32, limits: [i32; 6]) 
     );
     0
 }
+
+// The opening for C, under C's calling convention.
+#[no_mangle]
+pub extern "C" fn bilzhaan_open(
+    words: &mut [i32],
+    facilities: i32,
+    services: i32,
+    limits: &[i32; 6],
+) -> u32
+    ensures number { λ r. ⌜ r ≡ opening-number (now (words .entry)) facilities services (now (limits .entry)) ⌝ }
+    ensures words { λ _. ⌜ now (words .exit) ≡ opening-words (now (words .entry)) facilities services (now (limits .entry)) ⌝ }
+{
+    open(words, facilities, services, *limits)
+}

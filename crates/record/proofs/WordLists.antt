@@ -8,6 +8,7 @@ use native.Mathlib.Numerals.{add-one}
 use lib.IntN.{ℤ, pos}
 use lib.ListN.{length, drop, getD, set, drop-of-length-le}
 use lib.Seq.{drop-cons, set-at, append-snoc}
+use borrow.Rule.Slice.PartMut.{putMid}
 use Rattle.book_rules.specs.Record.{word-at, words-at}
 
 pub length-words-at : (b : List ℕ) (at n : ℕ) → length (words-at b at n) ≡ n
@@ -36,3 +37,10 @@ fill-more b d at i h =
 -- after its last turn
 pub filled-all : (b : List ℕ) (d : List ℤ) (at i : ℕ) → length d ≤ i → words-at b at i ++ drop i d ≡ words-at b at i
 filled-all b d at i h = rw (drop-of-length-le d h) (append-nil (words-at b at i))
+
+-- three words stored, and the others lent to be filled with x
+pub three-then-lent : (d x : List ℤ) (a b e : ℤ) → length d ≡ 23 → putMid 3 20 (set (set (set d 0 a) 1 b) 2 e) x ≡ a ∷ (b ∷ (e ∷ x))
+three-then-lent [] x a b e h = absurd (omega arith)
+three-then-lent (_ ∷ []) x a b e h = absurd (omega arith)
+three-then-lent (_ ∷ (_ ∷ [])) x a b e h = absurd (omega arith)
+three-then-lent (_ ∷ (_ ∷ (_ ∷ r))) x a b e h = ap (λ (l : List ℤ). a ∷ (b ∷ (e ∷ l))) (rw (drop-of-length-le r {i = 20} (omega arith)) (append-nil x))

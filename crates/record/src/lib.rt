@@ -65,17 +65,15 @@ fn fill_words(words: &mut [i32], bytes: &[u8], at: usize)
     }
 }
 
-// Cell words 1 to 23 that a call carries: proportion, ramps, pairs.
-pub fn offer_in(bytes: &[u8]) -> [i32; 23]
-    requires { ⌜ length (now bytes) ≡ 112 ⌝ }
-    ensures { λ r. ⌜ r ≡ offer-in (now (bytes .entry)) ⌝ }
+// Cell words 1 to 23 that a call carries: proportion, ramps, pairs. The caller lends them: 23 words returned are copied.
+pub fn read_offer(bytes: &[u8], words: &mut [i32])
+    requires { ⌜ (length (now bytes) ≡ 112) × (length (now words) ≡ 23) ⌝ }
+    ensures { λ _. ⌜ now (words .exit) ≡ offer-in (now (bytes .entry)) ⌝ }
 {
-    let mut words = [0i32; 23];
     words[0] = half_at(bytes, 14);
     words[1] = word_at(bytes, 16);
     words[2] = word_at(bytes, 20);
-    fill_words(&mut words[3..], bytes, 32);
-    words
+    fill_words(&mut words[3..23], bytes, 32);
 }
 
 // W0 to W16.

@@ -85,9 +85,10 @@ returns c =
     let s = d .before .before .before .before .before .before .before .before .before in
     let w = s .args .book .now in
     let b = s .args .bytes .now in
-    refused w b (s .pre .tested) (answer-of (c .plain .result)) (d .first-drawn .result)
+    c .plain .ensures
+    ∙ refused w b (s .pre .tested) (d .first-drawn .result)
     (judge-look-up (book-view w) b (s .pre .call-is) ∙ refused-before (book-view w) (facility-of b) (service-of b) (period-word b) (d .first-drawn .result) (number d) (c .before .if1 .taken))
-    (c .before .if1 .taken) (c .plain .ensures) .0
+    (c .before .if1 .taken) .0
 
 facilities-requires : tie.Need-facilities-requires
 facilities-requires c κs = search needs
@@ -120,7 +121,7 @@ returns-2 c =
     let w = s .args .book .now in
     let x = d .before .in-force .result in
     let e = nothing-number w x (sym (d .is-nothing .ensures) ∙ c .before .if2 .taken) in
-    refused w (s .args .bytes .now) (s .pre .tested) (answer-of (c .plain2 .result)) 19 (drawn d ∙ e) (λ q. omega arith) (c .plain2 .ensures) .0
+    c .plain2 .ensures ∙ refused w (s .args .bytes .now) (s .pre .tested) 19 (drawn d ∙ e) (λ q. omega arith) .0
 
 look-up-requires : tie.Need-look-up-requires
 look-up-requires c κs = search needs

@@ -51,7 +51,7 @@ returns : tie.Need-returns
 returns c =
     let d = c .before .before in
     let s = d .before .before .before .before .before in
-    refused (s .args .book .now) (s .args .bytes .now) (s .pre .0) (answer-of (c .plain .result)) (d .period-number .result) (drawn d) (c .before .if1 .taken) (c .plain .ensures) .0
+    c .plain .ensures ∙ refused (s .args .book .now) (s .args .bytes .now) (s .pre .0) (d .period-number .result) (drawn d) (c .before .if1 .taken) .0
 
 facilities-requires : tie.Need-facilities-requires
 facilities-requires c κs = search needs

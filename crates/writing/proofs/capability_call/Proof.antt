@@ -10,7 +10,6 @@ use Rattle.book_rules.specs.Refusals.{judge, capability-number}
 use Rattle.book_rules.specs.Book.{book-view}
 use Rattle.book_rules.proofs.Calls.{judge-capability}
 use Rattle.book_rules.proofs.OneCall.{accept-capability}
-use Rattle.cells.specs.Meaning.{answer-of}
 use Rattle.judging.proofs.Lent.{lent}
 use Rattle.judging.proofs.Answering.{refused, filed}
 
@@ -62,17 +61,14 @@ slice-aggregate-capability-number c = search needs
 capability-number-requires : tie.Need-capability-number-requires
 capability-number-requires c κs = search needs
 
-plain-requires : tie.Need-plain-requires
-plain-requires c κs = search needs
-
 same-length : tie.Need-same-length
 same-length c = search needs
 
 returns : tie.Need-returns
 returns c =
-    let d = c .before .before in
+    let d = c .before in
     let s = d .before .before .before .before .before .before .before .before in
-    refused (s .args .book .now) (s .args .bytes .now) (s .pre .tested) (answer-of (c .plain .result)) (d .capability-number .result) (drawn d) (c .before .if1 .taken) (c .plain .ensures)
+    refused (s .args .book .now) (s .args .bytes .now) (s .pre .tested) (d .capability-number .result) (drawn d) (c .if1 .taken)
 
 slice-aggregate-store-words : tie.Need-slice-aggregate-store-words
 slice-aggregate-store-words c = search needs
@@ -80,22 +76,19 @@ slice-aggregate-store-words c = search needs
 store-words-requires : tie.Need-store-words-requires
 store-words-requires c κs = search needs
 
-plain-requires-2 : tie.Need-plain-requires-2
-plain-requires-2 c κs = search needs
-
 same-length-2 : tie.Need-same-length-2
 same-length-2 c = search needs
 
 returns-2 : tie.Need-returns-2
 returns-2 c =
-    let d = c .before .before .before .before .before .before in
+    let d = c .before .before .before .before .before in
     let s = d .before .before .before .before .before .before .before .before in
     let w = s .args .book .now in
     let b = s .args .bytes .now in
     let e = d .before .before .before in
-    filed w b (s .pre .tested) (answer-of (c .plain2 .result)) 2 (s .pre .call-is) (omega arith) (drawn d ∙ c .before .before .before .before .before .if1 .left) (c .plain2 .ensures)
-    (c .before .before .store-words .last .0)
-    (c .before .before .store-words .ensures ∙ ap₂ (put w) (ap facility-place (e .before .wide .ensures)) (e .before .before .before .capability-in .ensures) ∙ sym (accept-capability w b (s .pre .call-is)))
+    filed w b (s .pre .tested) 2 (s .pre .call-is) (omega arith) (drawn d ∙ c .before .before .before .before .if1 .left)
+    (c .before .store-words .last .0)
+    (c .before .store-words .ensures ∙ ap₂ (put w) (ap facility-place (e .before .wide .ensures)) (e .before .before .before .capability-in .ensures) ∙ sym (accept-capability w b (s .pre .call-is)))
 
 pub capability-call-spec : {M : Type 1} → statement M
 capability-call-spec =
@@ -113,11 +106,9 @@ capability-call-spec =
     part-capability-number-end
     slice-aggregate-capability-number
     capability-number-requires
-    plain-requires
     same-length
     returns
     slice-aggregate-store-words
     store-words-requires
-    plain-requires-2
     same-length-2
     returns-2)

@@ -14,7 +14,6 @@ use Rattle.book_rules.specs.Refusals.{judge}
 use Rattle.book_rules.specs.Book.{book-view}
 use Rattle.book_rules.proofs.Calls.{judge-clock}
 use Rattle.book_rules.proofs.OneCall.{accept-clock}
-use Rattle.cells.specs.Meaning.{answer-of}
 use Rattle.judging.proofs.Answering.{refused, filed}
 
 minute : (c : tie.After-word-at) → toZ w32 (ofZ w32 (c .word-at .result)) ≡ word-A (c .before .before .args .bytes .now)
@@ -36,36 +35,30 @@ clock-requires c κs = search needs
 clock-number-requires : tie.Need-clock-number-requires
 clock-number-requires c κs = search needs
 
-plain-requires : tie.Need-plain-requires
-plain-requires c κs = search needs
-
 same-length : tie.Need-same-length
 same-length c = search needs
 
 returns : tie.Need-returns
 returns c =
-    let d = c .before .before in
+    let d = c .before in
     let s = d .before .before .before .before .before in
-    refused (s .args .book .now) (s .args .bytes .now) (s .pre .0) (answer-of (c .plain .result)) (d .clock-number .result) (drawn d) (c .before .if1 .taken) (c .plain .ensures)
+    refused (s .args .book .now) (s .args .bytes .now) (s .pre .0) (d .clock-number .result) (drawn d) (c .if1 .taken)
 
 store-word-requires : tie.Need-store-word-requires
 store-word-requires c κs = search needs
-
-plain-requires-2 : tie.Need-plain-requires-2
-plain-requires-2 c κs = search needs
 
 same-length-2 : tie.Need-same-length-2
 same-length-2 c = search needs
 
 returns-2 : tie.Need-returns-2
 returns-2 c =
-    let d = c .before .before .before .before .before in
+    let d = c .before .before .before .before in
     let s = d .before .before .before .before .before in
     let w = s .args .book .now in
     let b = s .args .bytes .now in
-    filed w b (s .pre .0) (answer-of (c .plain2 .result)) 1 (s .pre .1) (omega arith) (drawn d ∙ c .before .before .before .before .if1 .left) (c .plain2 .ensures)
-    (c .before .before .store-word .last .0)
-    (c .before .before .store-word .ensures ∙ ap (λ (z : ℤ). put w clock-place (z ∷ [])) (minute (d .before .before .before)) ∙ sym (accept-clock w b (s .pre .1)))
+    filed w b (s .pre .0) 1 (s .pre .1) (omega arith) (drawn d ∙ c .before .before .before .if1 .left)
+    (c .before .store-word .last .0)
+    (c .before .store-word .ensures ∙ ap (λ (z : ℤ). put w clock-place (z ∷ [])) (minute (d .before .before .before)) ∙ sym (accept-clock w b (s .pre .1)))
 
 pub clock-call-spec : {M : Type 1} → statement M
 clock-call-spec =
@@ -74,10 +67,8 @@ clock-call-spec =
     word-at-requires
     clock-requires
     clock-number-requires
-    plain-requires
     same-length
     returns
     store-word-requires
-    plain-requires-2
     same-length-2
     returns-2)

@@ -12,7 +12,6 @@ use Rattle.book_rules.specs.Refusals.{judge, notice-number}
 use Rattle.book_rules.specs.Book.{book-view}
 use Rattle.book_rules.proofs.Calls.{judge-notice}
 use Rattle.book_rules.proofs.OneCall.{accept-notice}
-use Rattle.cells.specs.Meaning.{answer-of}
 use Rattle.judging.proofs.Answering.{refused, filed}
 use Rattle.book_rules.proofs.Same.{notice-kinds}
 
@@ -50,14 +49,11 @@ word-at-requires-2 c κs = search needs
 notice-number-requires : tie.Need-notice-number-requires
 notice-number-requires c κs = search needs
 
-plain-requires : tie.Need-plain-requires
-plain-requires c κs = search needs
-
 returns : tie.Need-returns
 returns c =
-    let d = c .before .before in
+    let d = c .before in
     let s = d .before .before .before .before .before in
-    refused (s .args .book .now) (s .args .bytes .now) (s .pre .0) (answer-of (c .plain .result)) (d .notice-number .result) (drawn d) (c .before .if1 .taken) (c .plain .ensures)
+    refused (s .args .book .now) (s .args .bytes .now) (s .pre .0) (d .notice-number .result) (drawn d) (c .if1 .taken)
 
 wide-requires : tie.Need-wide-requires
 wide-requires c κs = search needs
@@ -71,21 +67,18 @@ sub-store-window c = omega (arith, kinds c)
 store-window-requires : tie.Need-store-window-requires
 store-window-requires c κs = omega (arith, kinds c)
 
-plain-requires-2 : tie.Need-plain-requires-2
-plain-requires-2 c κs = search needs
-
 same-length : tie.Need-same-length
 same-length c = search needs
 
 returns-2 : tie.Need-returns-2
 returns-2 c =
-    let d = c .before .before .before .before .before .before in
+    let d = c .before .before .before .before .before in
     let s = d .before .before .before .before .before in
     let w = s .args .book .now in
     let b = s .args .bytes .now in
-    filed w b (s .pre .0) (answer-of (c .plain2 .result)) 6 (s .pre .1) (omega arith) (drawn d ∙ c .before .before .before .before .before .if1 .left) (c .plain2 .ensures)
-    (c .before .before .store-window .last .0)
-    (c .before .before .store-window .ensures ∙ rw (c .before .before .before .wide .ensures, first (d .before .before), last (d .before)) (sym (accept-notice w b (s .pre .1))))
+    filed w b (s .pre .0) 6 (s .pre .1) (omega arith) (drawn d ∙ c .before .before .before .before .if1 .left)
+    (c .before .store-window .last .0)
+    (c .before .store-window .ensures ∙ rw (c .before .before .wide .ensures, first (d .before .before), last (d .before)) (sym (accept-notice w b (s .pre .1))))
 
 pub notice-call-spec : {M : Type 1} → statement M
 notice-call-spec =
@@ -95,12 +88,10 @@ notice-call-spec =
     word-at-requires
     word-at-requires-2
     notice-number-requires
-    plain-requires
     returns
     wide-requires
     mul-store-window
     sub-store-window
     store-window-requires
-    plain-requires-2
     same-length
     returns-2)

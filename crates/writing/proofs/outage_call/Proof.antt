@@ -18,7 +18,6 @@ use Rattle.book_rules.specs.Book.{book-view, outage-words}
 use Rattle.book_rules.proofs.Calls.{judge-outage}
 use Rattle.book_rules.proofs.OneCall.{accept-outage}
 use Rattle.refusals.proofs.OutagePassed.{outage-passed}
-use Rattle.cells.specs.Meaning.{answer-of}
 use Rattle.judging.proofs.Lent.{lent}
 use Rattle.judging.proofs.Answering.{refused, filed}
 
@@ -114,17 +113,14 @@ outage-number-requires c κs = search needs
 first-drawn-requires : tie.Need-first-drawn-requires
 first-drawn-requires c κs = search needs
 
-plain-requires : tie.Need-plain-requires
-plain-requires c κs = search needs
-
 same-length : tie.Need-same-length
 same-length c = search needs
 
 returns : tie.Need-returns
 returns c =
-    let d = c .before .before in
+    let d = c .before in
     let s = d .before .before .before .before .before .before .before .before .before .before .before .before .before in
-    refused (s .args .book .now) (s .args .bytes .now) (s .pre .tested) (answer-of (c .plain .result)) (d .first-drawn .result) (drawn d) (c .before .if1 .taken) (c .plain .ensures)
+    refused (s .args .book .now) (s .args .bytes .now) (s .pre .tested) (d .first-drawn .result) (drawn d) (c .if1 .taken)
 
 add-store-window : tie.Need-add-store-window
 add-store-window c = search needs
@@ -144,23 +140,20 @@ outage-last-requires c κs =
 store-window-requires : tie.Need-store-window-requires
 store-window-requires c κs = search needs
 
-plain-requires-2 : tie.Need-plain-requires-2
-plain-requires-2 c κs = search needs
-
 same-length-2 : tie.Need-same-length-2
 same-length-2 c = search needs
 
 returns-2 : tie.Need-returns-2
 unfolding outage-words
 returns-2 c =
-    let d = c .before .before .before .before .before .before .before in
+    let d = c .before .before .before .before .before .before in
     let e = d .before .before .before .before .before .before .before .before in
     let s = d .before .before .before .before .before .before .before .before .before .before .before .before .before in
     let w = s .args .book .now in
     let b = s .args .bytes .now in
-    filed w b (s .pre .tested) (answer-of (c .plain2 .result)) 5 (s .pre .call-is) (omega arith) (drawn d ∙ c .before .before .before .before .before .before .if1 .left) (c .plain2 .ensures)
-    (c .before .before .store-window .last .0)
-    (stored (c .before .before) ∙ rw (first (c .before .before .before .before), last (c .before .before .before), e .before .before .wide .ensures) (sym (accept-outage w b (s .pre .call-is))))
+    filed w b (s .pre .tested) 5 (s .pre .call-is) (omega arith) (drawn d ∙ c .before .before .before .before .before .if1 .left)
+    (c .before .store-window .last .0)
+    (stored (c .before) ∙ rw (first (c .before .before .before), last (c .before .before), e .before .before .wide .ensures) (sym (accept-outage w b (s .pre .call-is))))
 
 pub outage-call-spec : {M : Type 1} → statement M
 outage-call-spec =
@@ -181,13 +174,11 @@ outage-call-spec =
     part-outage-number-end
     outage-number-requires
     first-drawn-requires
-    plain-requires
     same-length
     returns
     add-store-window
     outage-first-requires
     outage-last-requires
     store-window-requires
-    plain-requires-2
     same-length-2
     returns-2)

@@ -9,7 +9,6 @@ use borrow.Author.Needs.{sfits-of}
 use Rattle.book_rules.specs.Record.{facility-of, service-of, period-word, reason-of, offer-in}
 use Rattle.book_rules.specs.Book.{book-view}
 use Rattle.book_rules.proofs.Calls.{judge-variation}
-use Rattle.cells.specs.Meaning.{answer-of}
 use Rattle.judging.proofs.Answering.{refused}
 use Rattle.writing.proofs.VariationDue.{due-drawn}
 
@@ -28,25 +27,21 @@ shared-slice-read-variation-due-number c = search needs
 variation-due-number-requires : tie.Need-variation-due-number-requires
 variation-due-number-requires c κs = search needs
 
-plain-requires : tie.Need-plain-requires
-plain-requires c κs = search needs
-
 same-length : tie.Need-same-length
 same-length c = search needs
 
 returns : tie.Need-returns
 returns c =
-    let s = c .before .before .before .before .before .before .before .before .before in
+    let s = c .before .before .before .before .before .before .before .before in
     let w = s .args .book .now in
     let b = s .args .bytes .now in
-    let n = c .before .before .variation-due-number in
-    let at = c .before .before .before .before .before .word-at in
+    let n = c .before .variation-due-number in
+    let at = c .before .before .before .before .word-at in
     let p : toZ w32 (ofZ w32 (at .result)) ≡ period-word b = toZ-ofZ {w = w32} (sfits-of (at .ok)) ∙ at .ensures in
-    let e = rw (c .before .before .before .before .before .before .wide .ensures, p) at (n .ensures .0) in
-    refused w b (s .pre .tested) (answer-of (c .plain .result)) (n .result)
-    (judge-variation (book-view w) b (s .pre .call-is) ∙ due-drawn w (facility-of b) (service-of b) (period-word b) (reason-of b) (offer-in b) (n .result) e (c .before .if1 .taken))
-    (c .before .if1 .taken)
-    (c .plain .ensures)
+    let e = rw (c .before .before .before .before .before .wide .ensures, p) at (n .ensures .0) in
+    refused w b (s .pre .tested) (n .result)
+    (judge-variation (book-view w) b (s .pre .call-is) ∙ due-drawn w (facility-of b) (service-of b) (period-word b) (reason-of b) (offer-in b) (n .result) e (c .if1 .taken))
+    (c .if1 .taken)
 
 vary-requires : tie.Need-vary-requires
 vary-requires c κs = search needs
@@ -66,7 +61,6 @@ variation-call-spec =
     word-at-requires
     shared-slice-read-variation-due-number
     variation-due-number-requires
-    plain-requires
     same-length
     returns
     vary-requires

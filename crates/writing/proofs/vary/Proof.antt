@@ -18,53 +18,55 @@ use Rattle.book_rules.specs.Book.{facilities-in, services-in, book-view, file-v
 use Rattle.book_rules.proofs.Calls.{judge-variation, length-offer}
 use Rattle.book_rules.proofs.OneCall.{accept-variation}
 use Rattle.book_rules.proofs.Rules.{variation-accepted}
-use Rattle.cells.specs.Meaning.{answer-of}
 use Rattle.judging.proofs.Answering.{refused, filed}
 
 period : (c : tie.After-word-at) → toZ w32 (ofZ w32 (c .word-at .result)) ≡ period-word (c .before .before .before .before .before .args .bytes .now)
 period c = toZ-ofZ {w = w32} (sfits-of (c .word-at .ok)) ∙ c .word-at .ensures
 
-number : (c : tie.After-variation-number) → let s = c .before .before .before .before .before .before .before .before .before .before in
+number : (c : tie.After-variation-number) → let s = c .before .before .before .before .before .before .before .before .before .before .before .before in
     let b = s .args .bytes .now in
     c .variation-number .result ≡ variation-number (book-view (s .args .book .now)) (facility-of b) (service-of b) (period-word b) (reason-of b) (offer-in b)
 number c =
-    let d = c .before .before .before in
-    rw (c .variation-number .ensures .0, d .before .before .before .before .wide .ensures, period (d .before .before), d .offer-in .ensures)
+    let d = c .before .before .before .before in
+    rw (c .variation-number .ensures .0, d .before .before .before .before .before .wide .ensures, period (d .before .before .before), d .read-offer .ensures)
 
-drawn : (c : tie.After-variation-number) → let s = c .before .before .before .before .before .before .before .before .before .before in judge (book-view (s .args .book .now)) (s .args .bytes .now) ≡ c .variation-number .result
+drawn : (c : tie.After-variation-number) → let s = c .before .before .before .before .before .before .before .before .before .before .before .before in judge (book-view (s .args .book .now)) (s .args .bytes .now) ≡ c .variation-number .result
 drawn c =
-    let s = c .before .before .before .before .before .before .before .before .before .before in
+    let s = c .before .before .before .before .before .before .before .before .before .before .before .before in
     judge-variation (book-view (s .args .book .now)) (s .args .bytes .now) (s .pre .call-is) ∙ sym (number c)
 
 -- The period as a count, and that it has passed 10.
-count : (c : tie.After-nat) → c .nat .result ≡ toNat (period-word (c .before .before .before .before .before .before .before .before .before .before .before .before .args .bytes .now))
-count c = c .nat .ensures .0 ∙ ap toNat (period (c .before .before .before .before .before .before .before))
+count : (c : tie.After-nat) → c .nat .result ≡ toNat (period-word (c .before .before .before .before .before .before .before .before .before .before .before .before .before .before .args .bytes .now))
+count c = c .nat .ensures .0 ∙ ap toNat (period (c .before .before .before .before .before .before .before .before .before))
 
 period-in : (c : tie.After-nat) → c .nat .result < 40000000
 unfolding book-view
 period-in c =
     let d = c .before .before in
-    let s = d .before .before .before .before .before .before .before .before .before .before in
+    let s = d .before .before .before .before .before .before .before .before .before .before .before .before in
     let w = s .args .book .now in
     let b = s .args .bytes .now in
     let h = variation-accepted (book-view w) (facility-of b) (service-of b) (period-word b) (reason-of b) (offer-in b) (sym (number d) ∙ c .before .if1 .left) .2 in
     omega (arith, h, count c, s .pre .tested .usable .timely)
 
 -- The cell that is written.
-place : (c : tie.After-cell-place) → let s = c .before .before .before .before .before .before .before .before .before .before .before .before .before .before .before .before .before .before in
+place : (c : tie.After-cell-place) → let s = c .before .before .before .before .before .before .before .before .before .before .before .before .before .before .before .before .before .before .before .before in
     let w = s .args .book .now in
     let b = s .args .bytes .now in
     (c .cell-place .result ≡ cell-place (facilities-in w) (services-in w) (facility-of b) (service-of b) variation-half (slot-of (toNat (period-word b)))) × (c .cell-place .result + 24 ≤ length w)
 place c =
     let d = c .before .before .before .before in
-    let sized = c .before .before .before .before .before .before .before .before .before .before .before .before .before .before .before .before .before .before .pre .tested .usable .sized in
+    let n = c .before .before .before .before .before .before .before .before in
+    let sized = n .before .before .before .before .before .before .before .before .before .before .before .before .pre .tested .usable .sized in
     let room = rw (d .facilities .ensures, c .before .before .services .ensures) at (c .cell-place .ensures .1) in (
-      rw (c .cell-place .ensures .0, d .facilities .ensures, c .before .before .services .ensures, c .before .before .before .before .before .before .before .before .before .before .before .before .before .before .before .wide .ensures, c .before .wide2 .ensures, count (d .before .before)),
+      rw (c .cell-place .ensures .0, d .facilities .ensures, c .before .before .services .ensures, n .before .before .before .before .before .before .before .before .before .wide .ensures, c .before .wide2 .ensures, count (c .before .before .before .before .before .before)),
       omega (arith, room, sized .room),
     )
 
 -- What is written there, stamped with the whole period.
-stored : (c : tie.After-store-offer) → c .store-offer .last .0 ≡ put (c .before .before .before .before .before .before .before .before .before .before .before .before .before .before .before .before .before .before .before .before .before .args .book .now) (c .before .before .before .cell-place .result) (cell (variation-stamp (c .before .before .before .before .before .before .before .before .before .nat .result)) (c .before .before .before .before .before .before .before .before .before .before .before .before .before .before .offer-in .result))
+stored : (c : tie.After-store-offer) → let e = c .before .before .before in
+    let n = e .before .before .before .before .before .before .before .before in
+    c .store-offer .last .0 ≡ put (n .before .before .before .before .before .before .before .before .before .before .before .before .args .book .now) (e .cell-place .result) (cell (variation-stamp (e .before .before .before .before .before .before .nat .result)) (n .before .before .before .before .read-offer .last .1 .0))
 stored c = search needs
 
 shared-slice-read-wide : tie.Need-shared-slice-read-wide
@@ -82,8 +84,11 @@ word-at-requires c κs = search needs
 shared-slice-read-reason : tie.Need-shared-slice-read-reason
 shared-slice-read-reason c = search needs
 
-offer-in-requires : tie.Need-offer-in-requires
-offer-in-requires c κs = search needs
+slice-aggregate-read-offer : tie.Need-slice-aggregate-read-offer
+slice-aggregate-read-offer c = search needs
+
+read-offer-requires : tie.Need-read-offer-requires
+read-offer-requires c κs = search needs
 
 slice-aggregate-variation-number : tie.Need-slice-aggregate-variation-number
 slice-aggregate-variation-number c = search needs
@@ -91,17 +96,14 @@ slice-aggregate-variation-number c = search needs
 variation-number-requires : tie.Need-variation-number-requires
 variation-number-requires c κs = search needs
 
-plain-requires : tie.Need-plain-requires
-plain-requires c κs = search needs
-
 same-length : tie.Need-same-length
 same-length c = search needs
 
 returns : tie.Need-returns
 returns c =
-    let d = c .before .before in
-    let s = d .before .before .before .before .before .before .before .before .before .before in
-    refused (s .args .book .now) (s .args .bytes .now) (s .pre .tested) (answer-of (c .plain .result)) (d .variation-number .result) (drawn d) (c .before .if1 .taken) (c .plain .ensures)
+    let d = c .before in
+    let s = d .before .before .before .before .before .before .before .before .before .before .before .before in
+    refused (s .args .book .now) (s .args .bytes .now) (s .pre .tested) (d .variation-number .result) (drawn d) (c .if1 .taken)
 
 nat-requires : tie.Need-nat-requires
 nat-requires c κs = search needs
@@ -129,11 +131,9 @@ slice-aggregate-store-offer c = search needs
 
 store-offer-requires : tie.Need-store-offer-requires
 store-offer-requires c κs =
-    let s = c .before .before .before .before .before .before .before .before .before .before .before .before .before .before .before .before .before .before .before .before in
-    (place (c .before .before) .1, omega (arith, period-in (c .before .before .before .before .before .before .before .before)), rw (c .before .before .before .before .before .before .before .before .before .before .before .before .before .offer-in .ensures) (length-offer (s .args .bytes .now)))
-
-plain-requires-2 : tie.Need-plain-requires-2
-plain-requires-2 c κs = search needs
+    let p = c .before .before .before .before .before .before .before .before in
+    let n = p .before .before in
+    (place (c .before .before) .1, omega (arith, period-in p), rw (n .before .before .before .before .read-offer .ensures) (length-offer (n .before .before .before .before .before .before .before .before .before .before .before .before .args .bytes .now)))
 
 same-length-2 : tie.Need-same-length-2
 same-length-2 c = search needs
@@ -141,14 +141,14 @@ same-length-2 c = search needs
 returns-2 : tie.Need-returns-2
 unfolding file-variation
 returns-2 c =
-    let d = c .before .before .before .before .before .before .before .before .before .before .before .before .before in
-    let s = d .before .before .before .before .before .before .before .before .before .before in
+    let e = c .before .before .before .before in
+    let d = e .before .before .before .before .before .before .before .before in
+    let s = d .before .before .before .before .before .before .before .before .before .before .before .before in
     let w = s .args .book .now in
     let b = s .args .bytes .now in
-    filed w b (s .pre .tested) (answer-of (c .plain2 .result)) 4 (s .pre .call-is) (omega arith) (drawn d ∙ c .before .before .before .before .before .before .before .before .before .before .before .before .if1 .left) (c .plain2 .ensures)
-    (c .before .before .store-offer .last .0)
-    (stored (c .before .before)
-    ∙ rw (place (c .before .before .before .before .before) .0, d .before .before .before .offer-in .ensures, count (c .before .before .before .before .before .before .before .before .before .before .before)) (sym (accept-variation w b (s .pre .call-is))))
+    filed w b (s .pre .tested) 4 (s .pre .call-is) (omega arith) (drawn d ∙ e .before .before .before .before .before .before .before .if1 .left)
+    (c .before .store-offer .last .0)
+    (stored (c .before) ∙ rw (place e .0, d .before .before .before .before .read-offer .ensures, count (e .before .before .before .before .before .before)) (sym (accept-variation w b (s .pre .call-is))))
 
 pub vary-spec : {M : Type 1} → statement M
 vary-spec =
@@ -159,10 +159,10 @@ vary-spec =
     shared-slice-read-service
     word-at-requires
     shared-slice-read-reason
-    offer-in-requires
+    slice-aggregate-read-offer
+    read-offer-requires
     slice-aggregate-variation-number
     variation-number-requires
-    plain-requires
     same-length
     returns
     nat-requires
@@ -174,6 +174,5 @@ vary-spec =
     cast-store-offer
     slice-aggregate-store-offer
     store-offer-requires
-    plain-requires-2
     same-length-2
     returns-2)

@@ -10,7 +10,6 @@ use Rattle.book_rules.specs.Refusals.{judge}
 use Rattle.book_rules.specs.Book.{book-view}
 use Rattle.book_rules.proofs.Calls.{judge-withdrawal}
 use Rattle.book_rules.proofs.OneCall.{accept-withdrawal}
-use Rattle.cells.specs.Meaning.{answer-of}
 use Rattle.judging.proofs.Answering.{refused, filed}
 
 drawn : (c : tie.After-withdrawal-number) → let s = c .before .before .before in judge (book-view (s .args .book .now)) (s .args .bytes .now) ≡ c .withdrawal-number .result
@@ -28,33 +27,27 @@ shared-slice-read-withdrawal-number c = search needs
 withdrawal-number-requires : tie.Need-withdrawal-number-requires
 withdrawal-number-requires c κs = search needs
 
-plain-requires : tie.Need-plain-requires
-plain-requires c κs = search needs
-
 returns : tie.Need-returns
 returns c =
-    let d = c .before .before in
+    let d = c .before in
     let s = d .before .before .before in
-    refused (s .args .book .now) (s .args .bytes .now) (s .pre .0) (answer-of (c .plain .result)) (d .withdrawal-number .result) (drawn d) (c .before .if1 .taken) (c .plain .ensures)
+    refused (s .args .book .now) (s .args .bytes .now) (s .pre .0) (d .withdrawal-number .result) (drawn d) (c .if1 .taken)
 
 store-window-requires : tie.Need-store-window-requires
 store-window-requires c κs = search needs
-
-plain-requires-2 : tie.Need-plain-requires-2
-plain-requires-2 c κs = search needs
 
 same-length : tie.Need-same-length
 same-length c = search needs
 
 returns-2 : tie.Need-returns-2
 returns-2 c =
-    let d = c .before .before .before .before .before in
+    let d = c .before .before .before .before in
     let s = d .before .before .before in
     let w = s .args .book .now in
     let b = s .args .bytes .now in
-    filed w b (s .pre .0) (answer-of (c .plain2 .result)) 7 (s .pre .1) (omega arith) (drawn d ∙ c .before .before .before .before .if1 .left) (c .plain2 .ensures)
-    (c .before .before .store-window .last .0)
-    (emptied (c .before .before) ∙ sym (accept-withdrawal w b (s .pre .1)))
+    filed w b (s .pre .0) 7 (s .pre .1) (omega arith) (drawn d ∙ c .before .before .before .if1 .left)
+    (c .before .store-window .last .0)
+    (emptied (c .before) ∙ sym (accept-withdrawal w b (s .pre .1)))
 
 pub withdrawal-call-spec : {M : Type 1} → statement M
 withdrawal-call-spec =
@@ -62,9 +55,7 @@ withdrawal-call-spec =
     (tie.spec
     shared-slice-read-withdrawal-number
     withdrawal-number-requires
-    plain-requires
     returns
     store-window-requires
-    plain-requires-2
     same-length
     returns-2)
