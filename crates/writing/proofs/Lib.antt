@@ -1,2 +1,2 @@
 -- Laws of what a writer draws.
-pub mod VariationDue
+pub mod OfferDue

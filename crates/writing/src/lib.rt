@@ -14,6 +14,7 @@ use judging::clock;
 use judging::facilities;
 use judging::kind_number;
 use judging::services;
+use judging::standing_due_number;
 use judging::standing_number;
 use judging::variation_due_number;
 use judging::variation_number;
@@ -91,7 +92,7 @@ pub fn capability_call(book: &mut [i32], bytes: &[u8]) -> u8
 }
 
 // 5 to 18; files one cell.
-pub fn standing_call(book: &mut [i32], bytes: &[u8]) -> u8
+fn stand(book: &mut [i32], bytes: &[u8]) -> u8
     requires { ⌜ Place (now book) (now bytes) 3 ⌝ }
     ensures { λ r. ⌜ (plain r ≡ book-answer (now (book .entry)) (now (bytes .entry))) × (now (book .exit) ≡ book-after (now (book .entry)) (now (bytes .entry))) ⌝ }
 {
@@ -114,6 +115,20 @@ pub fn standing_call(book: &mut [i32], bytes: &[u8]) -> u8
     );
     store_offer(book, at, STANDING_STAMP, &offer);
     0
+}
+
+// 5, 9 and 10 are drawn before the offer is read from the bytes, which takes longer than the rest of such a call.
+pub fn standing_call(book: &mut [i32], bytes: &[u8]) -> u8
+    requires { ⌜ Place (now book) (now bytes) 3 ⌝ }
+    ensures { λ r. ⌜ (plain r ≡ book-answer (now (book .entry)) (now (bytes .entry))) × (now (book .exit) ≡ book-after (now (book .entry)) (now (bytes .entry))) ⌝ }
+{
+    let f = wide(bytes[FACILITY_BYTE]);
+    let slot = word_at(bytes, PERIOD);
+    let number = standing_due_number(book, f, bytes[SERVICE_BYTE], slot);
+    if number != 0 {
+        return number;
+    }
+    stand(book, bytes)
 }
 
 // 5 to 17; files one cell. "The slot of P is P mod 336."
@@ -144,7 +159,7 @@ fn vary(book: &mut [i32], bytes: &[u8]) -> u8
     0
 }
 
-// 5, 9 and 10 are drawn before the offer is read from the bytes, which takes longer than the rest of such a call.
+// 5, 9 and 10 before the offer is read, as of a standing offer.
 pub fn variation_call(book: &mut [i32], bytes: &[u8]) -> u8
     requires { ⌜ Place (now book) (now bytes) 4 ⌝ }
     ensures { λ r. ⌜ (plain r ≡ book-answer (now (book .entry)) (now (bytes .entry))) × (now (book .exit) ≡ book-after (now (book .entry)) (now (bytes .entry))) ⌝ }

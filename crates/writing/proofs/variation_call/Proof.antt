@@ -10,7 +10,7 @@ use Rattle.book_rules.specs.Record.{facility-of, service-of, period-word, reaso
 use Rattle.book_rules.specs.Book.{book-view}
 use Rattle.book_rules.proofs.Calls.{judge-variation}
 use Rattle.judging.proofs.Answering.{refused}
-use Rattle.writing.proofs.VariationDue.{due-drawn}
+use Rattle.writing.proofs.OfferDue.{variation-due-drawn}
 
 shared-slice-read-wide : tie.Need-shared-slice-read-wide
 shared-slice-read-wide c = search needs
@@ -40,7 +40,7 @@ returns c =
     let p : toZ w32 (ofZ w32 (at .result)) ≡ period-word b = toZ-ofZ {w = w32} (sfits-of (at .ok)) ∙ at .ensures in
     let e = rw (c .before .before .before .before .before .wide .ensures, p) at (n .ensures .0) in
     refused w b (s .pre .tested) (n .result)
-    (judge-variation (book-view w) b (s .pre .call-is) ∙ due-drawn w (facility-of b) (service-of b) (period-word b) (reason-of b) (offer-in b) (n .result) e (c .if1 .taken))
+    (judge-variation (book-view w) b (s .pre .call-is) ∙ variation-due-drawn w (facility-of b) (service-of b) (period-word b) (reason-of b) (offer-in b) (n .result) e (c .if1 .taken))
     (c .if1 .taken)
 
 vary-requires : tie.Need-vary-requires
