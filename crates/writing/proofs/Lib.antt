@@ -1,2 +1,3 @@
 -- Laws of what a writer draws.
 pub mod OfferDue
+pub mod SentKind

@@ -61,6 +61,8 @@ const A: usize = 24;
 
 const B: usize = 28;
 
+const W0: usize = 32;
+
 // 6; files the minute.
 pub fn clock_call(book: &mut [i32], bytes: &[u8]) -> u8
     requires { ⌜ Tested (now book) (now bytes) × (call-of (now bytes) ≡ 1) ⌝ }
@@ -76,7 +78,7 @@ pub fn clock_call(book: &mut [i32], bytes: &[u8]) -> u8
 }
 
 // 8; files W0 to W16.
-pub fn capability_call(book: &mut [i32], bytes: &[u8]) -> u8
+fn file_capability(book: &mut [i32], bytes: &[u8]) -> u8
     requires { ⌜ Facility (now book) (now bytes) 2 ⌝ }
     ensures { λ r. ⌜ (plain r ≡ book-answer (now (book .entry)) (now (bytes .entry))) × (now (book .exit) ≡ book-after (now (book .entry)) (now (bytes .entry))) ⌝ }
 {
@@ -89,6 +91,20 @@ pub fn capability_call(book: &mut [i32], bytes: &[u8]) -> u8
     }
     store_words(book, at, &sent);
     0
+}
+
+// The kind, which alone is held against the book, is tested before the other words are read.
+pub fn capability_call(book: &mut [i32], bytes: &[u8]) -> u8
+    requires { ⌜ Facility (now book) (now bytes) 2 ⌝ }
+    ensures { λ r. ⌜ (plain r ≡ book-answer (now (book .entry)) (now (bytes .entry))) × (now (book .exit) ≡ book-after (now (book .entry)) (now (bytes .entry))) ⌝ }
+{
+    let kind = word_at(bytes, W0);
+    let at = FACILITIES + FACILITY * wide(bytes[FACILITY_BYTE]);
+    let end = at + CAPABILITY;
+    if refusals::is_kind_refused(&book[at..end], kind) {
+        return 8;
+    }
+    file_capability(book, bytes)
 }
 
 // 5 to 18; files one cell.
