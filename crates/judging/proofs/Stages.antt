@@ -12,6 +12,7 @@ use Rattle.offer_rules.specs.Time.{slots, start-of, horizon-end}
 use Rattle.offer_rules.specs.Offer.{standing-rules, variation-rules}
 use Rattle.offer_rules.specs.Gate.{Grounds, is-open, gate-refuses}
 use Rattle.offer_rules.proofs.Drawn.{then-zero, then-assoc}
+use Rattle.units.proofs.Chains.{then-none, then-drawn}
 use Rattle.book_rules.specs.Words.{part, clock-place, limits-place, facility-place}
 use Rattle.book_rules.specs.Force.{InForce, first-of, in-force}
 use Rattle.book_rules.specs.Refusals.{facility-number, registration-number, revision-number, gate-number, grounds, standing-number, variation-number}
@@ -21,6 +22,13 @@ use Rattle.judging.specs.Usable.{held-in}
 
 two-stages : (a b c d : ℕ) → (a then (b then (c then d))) ≡ ((a then (b then c)) then d)
 two-stages a b c d = sym (then-assoc a (b then c) d ∙ ap (λ (n : ℕ). a then n) (then-assoc b c d))
+
+-- 5 and 9, drawn as n, and what is drawn after them.
+pub placed : (a b c n : ℕ) → n ≡ (a then b) → (n ≡ 0 → ⊥) → n ≡ (a then (b then c))
+placed a b c n e h = e ∙ sym (sym (then-assoc a b c) ∙ then-drawn (a then b) c (λ z. h (e ∙ z)))
+
+pub placed-none : (a b c n : ℕ) → n ≡ (a then b) → n ≡ 0 → c ≡ (a then (b then c))
+placed-none a b c n e z = sym (sym (then-assoc a b c) ∙ then-none (a then b) c (sym e ∙ z))
 
 module _ (w : List ℤ) (f s : ℕ) where
   -- 5 to 16 of a standing offer, and of a variation.

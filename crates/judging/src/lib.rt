@@ -111,6 +111,18 @@ fn mark_number(book: &[i32], f: usize, service: u8) -> u8
     refusals::registration_number(&book[at..end], service)
 }
 
+// 5 and 9: the facility is known, and registered for the service.
+fn place_number(book: &[i32], f: usize, service: u8) -> u8
+    requires { ⌜ Usable (now book) × (f < facilities-in (now book)) × (service < services-in (now book)) ⌝ }
+    ensures { λ r. ⌜ (r ≡ (facility-number (part (facility-place f) 17 (now (book .entry))) then registration-number (part (facility-place f) 17 (now (book .entry))) service)) × (r ≤ 9) ⌝ }
+{
+    let kind = kind_number(book, f);
+    if kind != 0 {
+        return kind;
+    }
+    mark_number(book, f, service)
+}
+
 // 10 for P.
 pub fn period_number(book: &[i32], period: i32) -> u8
     requires { ⌜ Usable (now book) ⌝ }
@@ -126,13 +138,9 @@ pub fn standing_due_number(book: &[i32], f: usize, service: u8, slot: i32) -> u8
     requires { ⌜ Usable (now book) × (f < facilities-in (now book)) × (service < services-in (now book)) ⌝ }
     ensures { λ r. ⌜ (r ≡ (facility-number (part (facility-place f) 17 (now (book .entry))) then registration-number (part (facility-place f) 17 (now (book .entry))) service then draw (slot-refused slot) 10)) × (r ≤ 10) ⌝ }
 {
-    let kind = kind_number(book, f);
-    if kind != 0 {
-        return kind;
-    }
-    let mark = mark_number(book, f, service);
-    if mark != 0 {
-        return mark;
+    let place = place_number(book, f, service);
+    if place != 0 {
+        return place;
     }
     draw_if(offers::is_slot_refused(slot), 10)
 }
@@ -164,13 +172,9 @@ fn standing_rules_number(book: &[i32], f: usize, service: u8, slot: i32, offer: 
     requires { ⌜ Usable (now book) × (f < facilities-in (now book)) × (service < services-in (now book)) × (length (now offer) ≡ 23) ⌝ }
     ensures { λ r. ⌜ (r ≡ (facility-number (part (facility-place f) 17 (now (book .entry))) then registration-number (part (facility-place f) 17 (now (book .entry))) service then standing-rules (part limits-place 6 (now (book .entry))) (part (facility-place f) 17 (now (book .entry))) service slot (now (offer .entry)))) × (r ≤ 16) ⌝ }
 {
-    let kind = kind_number(book, f);
-    if kind != 0 {
-        return kind;
-    }
-    let mark = mark_number(book, f, service);
-    if mark != 0 {
-        return mark;
+    let place = place_number(book, f, service);
+    if place != 0 {
+        return place;
     }
     let at = FACILITIES + FACILITY * f;
     let end = at + CAPABILITY;
@@ -311,13 +315,9 @@ fn variation_rules_number(
     requires { ⌜ Usable (now book) × (f < facilities-in (now book)) × (service < services-in (now book)) × (length (now offer) ≡ 23) ⌝ }
     ensures { λ r. ⌜ (r ≡ (facility-number (part (facility-place f) 17 (now (book .entry))) then registration-number (part (facility-place f) 17 (now (book .entry))) service then variation-rules (toNat (word (now (book .entry)) clock-place)) (part limits-place 6 (now (book .entry))) (part (facility-place f) 17 (now (book .entry))) service period reason (now (offer .entry)))) × (r ≤ 16) ⌝ }
 {
-    let kind = kind_number(book, f);
-    if kind != 0 {
-        return kind;
-    }
-    let mark = mark_number(book, f, service);
-    if mark != 0 {
-        return mark;
+    let place = place_number(book, f, service);
+    if place != 0 {
+        return place;
     }
     let at = FACILITIES + FACILITY * f;
     let end = at + CAPABILITY;
@@ -337,13 +337,9 @@ pub fn variation_due_number(book: &[i32], f: usize, service: u8, period: i32) ->
     requires { ⌜ Usable (now book) × (f < facilities-in (now book)) × (service < services-in (now book)) ⌝ }
     ensures { λ r. ⌜ (r ≡ (facility-number (part (facility-place f) 17 (now (book .entry))) then registration-number (part (facility-place f) 17 (now (book .entry))) service then period-number (toNat (word (now (book .entry)) clock-place)) period)) × (r ≤ 10) ⌝ }
 {
-    let kind = kind_number(book, f);
-    if kind != 0 {
-        return kind;
-    }
-    let mark = mark_number(book, f, service);
-    if mark != 0 {
-        return mark;
+    let place = place_number(book, f, service);
+    if place != 0 {
+        return place;
     }
     period_number(book, period)
 }
