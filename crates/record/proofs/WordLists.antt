@@ -1,6 +1,6 @@
 -- A list filled from the front with a record's words:
 -- a turn of the loop that does it, and its end.
-use mathlib.Core.Path.{_≡_, refl, sym, ap, _∙_}
+use mathlib.Core.Path.{_≡_, refl, sym, ap, ap₂, _∙_}
 use mathlib.Core.List.{List, [], _∷_, _++_, append-nil}
 use Prim.Native.Nat.{ℕ, zero, suc, _+_, _*_, _<_, _≤_}
 use native.Mathlib.Omega.{arith}
@@ -33,6 +33,18 @@ fill-more b d at i h =
     ∙ set-at (words-at b at i) (getD d i (pos 0)) (drop (suc i) d) w i (length-words-at b at i)
     ∙ sym (append-snoc (words-at b at i) w (drop (suc i) d))
     ∙ rw (add-one i, words-at-snoc b at i)
+
+-- a turn of one that writes them two at a time
+pub fill-two-more : (b : List ℕ) (d : List ℤ) (at i : ℕ) → 2 * i + 1 < length d
+    → set (set (words-at b at (2 * i) ++ drop (2 * i) d) (2 * i) (word-at b (at + 8 * i))) (2 * i + 1) (word-at b (at + 8 * i + 4)) ≡ words-at b at (2 * (i + 1)) ++ drop (2 * (i + 1)) d
+fill-two-more b d at i h =
+    let x : at + 8 * i ≡ at + 4 * (2 * i) = omega arith in
+    let y : at + 8 * i + 4 ≡ at + 4 * (2 * i + 1) = omega arith in
+    let n : 2 * (i + 1) ≡ 2 * i + 1 + 1 = omega arith in
+    ap₂ (λ (p q : ℤ). set (set (words-at b at (2 * i) ++ drop (2 * i) d) (2 * i) p) (2 * i + 1) q) (ap (word-at b) x) (ap (word-at b) y)
+    ∙ ap (λ (l : List ℤ). set l (2 * i + 1) (word-at b (at + 4 * (2 * i + 1)))) (fill-more b d at (2 * i) (omega arith))
+    ∙ fill-more b d at (2 * i + 1) h
+    ∙ ap (λ (k : ℕ). words-at b at k ++ drop k d) (sym n)
 
 -- after its last turn
 pub filled-all : (b : List ℕ) (d : List ℤ) (at i : ℕ) → length d ≤ i → words-at b at i ++ drop i d ≡ words-at b at i

@@ -1,7 +1,7 @@
 // A record's bytes: its words, the bytes that its call uses, and refusals 2, 3 and 4 of it.
 // The gateway's C program calls bilzhaan_record_test.
 ghost use mathlib.Core.Path.{_≡_};
-ghost use Prim.Native.Nat.{_+_, _*_, _-_, _≤_, _<_};
+ghost use Prim.Native.Nat.{_+_, _*_, _-_, _/_, _%_, _≤_, _<_};
 ghost use lib.IntN.{pos};
 ghost use lib.ListN.{length, drop};
 ghost use lib.Dec.{eqb};
@@ -27,6 +27,13 @@ fn join_four(a: u8, b: u8, c: u8, d: u8) -> u32
     ((a as u32 * 256 + b as u32) * 256 + c as u32) * 256 + d as u32
 }
 
+// Eight bytes, as two words of four.
+fn join_eight(first: u32, second: u32) -> u64
+    ensures { λ r. ⌜ (r / 4294967296 ≡ first) × (r % 4294967296 ≡ second) ⌝ }
+{
+    first as u64 * 4294967296 + second as u64
+}
+
 // 32 bits in two's complement.
 fn signed_from(bits: u32) -> i32
     ensures { λ r. ⌜ r ≡ signed bits ⌝ }
@@ -38,12 +45,27 @@ fn signed_from(bits: u32) -> i32
     }
 }
 
+fn four_at(bytes: &[u8], at: usize) -> u32
+    requires { ⌜ at + 4 ≤ length (now bytes) ⌝ }
+    ensures { λ r. ⌜ signed r ≡ word-at (now (bytes .entry)) at ⌝ }
+{
+    join_four(bytes[at], bytes[at + 1], bytes[at + 2], bytes[at + 3])
+}
+
 // "Words are signed 32-bit, most significant byte first."
 pub fn word_at(bytes: &[u8], at: usize) -> i32
     requires { ⌜ at + 4 ≤ length (now bytes) ⌝ }
     ensures { λ r. ⌜ r ≡ word-at (now (bytes .entry)) at ⌝ }
 {
-    signed_from(join_four(bytes[at], bytes[at + 1], bytes[at + 2], bytes[at + 3]))
+    signed_from(four_at(bytes, at))
+}
+
+// Two words, as the halves of eight bytes.
+fn two_words_at(bytes: &[u8], at: usize) -> u64
+    requires { ⌜ at + 8 ≤ length (now bytes) ⌝ }
+    ensures { λ r. ⌜ (signed (r / 4294967296) ≡ word-at (now (bytes .entry)) at) × (signed (r % 4294967296) ≡ word-at (now (bytes .entry)) (at + 4)) ⌝ }
+{
+    join_eight(four_at(bytes, at), four_at(bytes, at + 4))
 }
 
 // 16 bits, not signed: the proportion, "0 to 65,535".
@@ -65,6 +87,19 @@ fn fill_words(words: &mut [i32], bytes: &[u8], at: usize)
     }
 }
 
+// Fills the words from byte `at` on, two at a time: eight bytes are then one load and one store.
+fn fill_pairs(words: &mut [i32], bytes: &[u8], at: usize)
+    requires { ⌜ (at + 4 * length (now words) ≤ length (now bytes)) × (length (now words) % 2 ≡ 0) ⌝ }
+    ensures { λ _. ⌜ now (words .exit) ≡ words-at (now (bytes .entry)) at (length (now (words .entry))) ⌝ }
+{
+    let n = words.len() / 2;
+    for i in 0..n {
+        let two = two_words_at(bytes, at + 8 * i);
+        words[2 * i] = signed_from((two / 4294967296) as u32);
+        words[2 * i + 1] = signed_from((two % 4294967296) as u32);
+    }
+}
+
 // Cell words 1 to 23 that a call carries: proportion, ramps, pairs. The caller lends them: 23 words returned are copied.
 pub fn read_offer(bytes: &[u8], words: &mut [i32])
     requires { ⌜ (length (now bytes) ≡ 112) × (length (now words) ≡ 23) ⌝ }
@@ -73,7 +108,7 @@ pub fn read_offer(bytes: &[u8], words: &mut [i32])
     words[0] = half_at(bytes, 14);
     words[1] = word_at(bytes, 16);
     words[2] = word_at(bytes, 20);
-    fill_words(&mut words[3..23], bytes, 32);
+    fill_pairs(&mut words[3..23], bytes, 32);
 }
 
 // W0 to W16.

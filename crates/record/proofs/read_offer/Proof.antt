@@ -31,17 +31,17 @@ word-at-requires-2 c κs = search needs
 slice-set-from-words-3 : tie.Need-slice-set-from-words-3
 slice-set-from-words-3 c = search needs
 
-sub-fill-words : tie.Need-sub-fill-words
-sub-fill-words c = search needs
+sub-fill-pairs : tie.Need-sub-fill-pairs
+sub-fill-pairs c = search needs
 
-part-fill-words-start : tie.Need-part-fill-words-start
-part-fill-words-start c = search needs
+part-fill-pairs-start : tie.Need-part-fill-pairs-start
+part-fill-pairs-start c = search needs
 
-part-fill-words-end : tie.Need-part-fill-words-end
-part-fill-words-end c = simp length-set (omega arith)
+part-fill-pairs-end : tie.Need-part-fill-pairs-end
+part-fill-pairs-end c = simp length-set (omega arith)
 
-fill-words-requires : tie.Need-fill-words-requires
-fill-words-requires c κs = search needs
+fill-pairs-requires : tie.Need-fill-pairs-requires
+fill-pairs-requires c κs = search needs
 
 same-length : tie.Need-same-length
 same-length c = c .words .given .1 ∙ simp length-set
@@ -53,7 +53,7 @@ returns c =
     let h = c .before .before .before .before .before .half-at in
     let u = c .before .before .before .before .word-at in
     let d = c .before .before .before .word-at2 in
-    let w = c .before .fill-words in
+    let w = c .before .fill-pairs in
     let three = set (set (set (s .args .words .now) 0 (toZ w32 (ofZ w32 (h .result)))) 1 (toZ w32 (ofZ w32 (u .result)))) 2 (toZ w32 (ofZ w32 (d .result))) in
     let twenty : length (midOf 3 20 three) ≡ 20 = mid-len 3 23 three (simp length-set (omega arith)) in
     three-then-lent (s .args .words .now) (w .last .0) _ _ _ (s .pre .1)
@@ -69,9 +69,9 @@ read-offer-spec =
     slice-set-from-words-2
     word-at-requires-2
     slice-set-from-words-3
-    sub-fill-words
-    part-fill-words-start
-    part-fill-words-end
-    fill-words-requires
+    sub-fill-pairs
+    part-fill-pairs-start
+    part-fill-pairs-end
+    fill-pairs-requires
     same-length
     returns)
