@@ -1,12 +1,15 @@
 #!/usr/bin/env bash
 # Builds into target/bench/ and measures the library against bench/plain_book.c (gcc -O2), as a Markdown table.
-# Arguments: the static library, rounds (15). Nanoseconds are the least of the rounds; the loop around is taken off.
+# Arguments: the static library, processes (15), rounds (15). A process's nanoseconds are the least of its rounds, the loop around
+# taken off. Shown are the least of the processes, and the median of their ratios: where a process's stack and books lie, and what
+# else the machine does, changes some calls by a tenth.
 set -euo pipefail
 
-[ $# -ge 1 ] || { echo "usage: bench/run.sh LIBRARY.a [ROUNDS]" >&2; exit 2; }
+[ $# -ge 1 ] || { echo "usage: bench/run.sh LIBRARY.a [PROCESSES] [ROUNDS]" >&2; exit 2; }
 [ -f "$1" ] || { echo "no library at $1" >&2; exit 2; }
 library=$(realpath "$1")
-rounds=${2:-15}
+processes=${2:-15}
+rounds=${3:-15}
 cd "$(dirname "$0")/.."
 
 for tool in gcc awk; do
@@ -18,7 +21,9 @@ rm -rf "$out"
 mkdir -p "$out"
 gcc -std=c11 -Wall -Wextra -Werror -pedantic -O2 -Iinclude bench/bench.c bench/plain_book.c "$library" -o "$out/bench"
 
-"$out/bench" "$rounds" >"$out/times.tsv"
+for i in $(seq "$processes"); do
+    "$out/bench" "$rounds" | awk -v process="$i" '{ print $0 "\t" process }'
+done >"$out/times.tsv"
 
 # One dump of callgrind for each run of measured_calls, in the order of the lines that the program prints.
 : >"$out/instructions.tsv"
@@ -39,10 +44,29 @@ echo "Machine: $(awk -F': ' '/^model name/ { print $2; exit }' /proc/cpuinfo), $
 echo
 awk -F'\t' '
     function ratio(a, b) { return b > 0 ? sprintf("%.2f", a / b) : "-" }
+    function less_loop(key, subject, i) { return ns[key, subject, i] - ns[key, "loop", i] }
+    function least(key, subject,    i, x) {
+        x = less_loop(key, subject, 1)
+        for (i = 2; i <= processes; i++) if (less_loop(key, subject, i) < x) x = less_loop(key, subject, i)
+        return x
+    }
+    # The median of the ratios, over the processes in which plain C takes any time beyond the loop.
+    function median_ratio(key,    i, j, n, x, v) {
+        n = 0
+        for (i = 1; i <= processes; i++) {
+            if (less_loop(key, "plain", i) <= 0) continue
+            x = less_loop(key, "library", i) / less_loop(key, "plain", i)
+            for (j = n; j >= 1 && v[j] > x; j--) v[j + 1] = v[j]
+            v[j + 1] = x
+            n++
+        }
+        return n > 0 ? sprintf("%.2f", (v[int((n + 1) / 2)] + v[int(n / 2) + 1]) / 2) : "-"
+    }
     FILENAME ~ /times/ {
         key = $1 FS $2
         if (!(key in seen)) { seen[key] = 1; order[++rows] = key }
-        ns[key, $3] = $5
+        ns[key, $3, $6] = $5
+        processes = $6
         next
     }
     { count[$1 FS $2, $3] = $6 / $4 }
@@ -52,9 +76,7 @@ awk -F'\t' '
         for (i = 1; i <= rows; i++) {
             key = order[i]
             split(key, name, FS)
-            a = ns[key, "library"] - ns[key, "loop"]
-            b = ns[key, "plain"] - ns[key, "loop"]
-            printf "| %s | %s | %.1f | %.1f | %s |", name[1], name[2], a, b, ratio(a, b)
+            printf "| %s | %s | %.1f | %.1f | %s |", name[1], name[2], least(key, "library"), least(key, "plain"), median_ratio(key)
             if ((key, "library") in count) {
                 a = count[key, "library"] - count[key, "loop"]
                 b = count[key, "plain"] - count[key, "loop"]
@@ -65,6 +87,7 @@ awk -F'\t' '
     }' "$out/times.tsv" "$out/instructions.tsv"
 echo
 cat <<NOTE
-Hot: the same cell again and again; scattered: a random facility and slot each time. Nanoseconds are the least of $rounds
-rounds, without the loop around. Callgrind counts every repetition of a string instruction, as in the memset of an opening.
+Hot: the same cell again and again; scattered: a random facility and slot each time. A process's nanoseconds are the least of $rounds
+rounds, without the loop around; shown are the least of $processes processes, and the median of their ratios. Callgrind counts every
+repetition of a string instruction, as in the memset of an opening.
 NOTE
