@@ -13,7 +13,7 @@ use Rattle.offer_rules.specs.Offer.{pairs-in}
 use Rattle.gate.specs.declared.Merge.{Merge}
 use Rattle.gate.specs.Differing.{or-else, first-differing}
 use Rattle.gate.specs.Merging.{cut, rest, left-of, alike, differ, pass-old, pass-new, pass-both, either, merged, later, first-from}
-use Rattle.gate.proofs.Words.{pairs-from, no-pairs-from}
+use Rattle.offer_rules.proofs.Pairs.{pairs-from, no-pairs-from}
 use Rattle.gate.proofs.Runs.{run, pass-shorter, pass-shorter-new, flip, uncut, none-left}
 
 rest-is-run : (w : List ℤ) (i n : ℕ) → 2 * i + 1 < length w → rest w i n ≡ run (word w (2 * i)) (left-of w i n) (pairs-in (drop (2 * (i + 1)) w))
@@ -26,7 +26,7 @@ rest-unused w i = refl
 
 rest-at-end : (w : List ℤ) (i n : ℕ) → length w ≤ 2 * i + 1 → rest w i n ≡ cut n []
 unfolding rest
-rest-at-end w i n h = ap (cut n) (no-pairs-from w i h)
+rest-at-end w i n h = ap (cut n) (no-pairs-from w (2 * i) h)
 
 left-after : (w : List ℤ) (i n a : ℕ) → left-of w i (n + a) ≡ left-of w i n - a
 unfolding left-of

@@ -1,38 +1,13 @@
--- An offer's words as pairs: from pair i on, at the end, and their tenths added.
-use mathlib.Core.Path.{_≡_, refl, ap, _∙_}
-use mathlib.Core.List.{List, [], _∷_}
-use Prim.Native.Nat.{ℕ, suc, _+_, _*_, _<_, _≤_}
-use native.Mathlib.Omega.{arith}
-use lib.IntN.{ℤ, pos}
-use lib.ListN.{length, drop, length-drop}
-use lib.Seq.{drop-cons}
+-- The tenths of an offer's words added, from pair i on.
+use mathlib.Core.Path.{_≡_, ap}
+use mathlib.Core.List.{List}
+use Prim.Native.Nat.{ℕ, _+_, _*_, _<_, _≤_}
+use lib.IntN.{ℤ}
+use lib.ListN.{length, drop}
 use Rattle.offer_rules.specs.Numbers.{toNat, word}
 use Rattle.offer_rules.specs.Offer.{pairs-in}
 use Rattle.offer_rules.specs.Gate.{total-tenths}
-
-drop-two : (w : List ℤ) (i : ℕ) → i + 1 < length w → drop i w ≡ word w i ∷ word w (i + 1) ∷ drop (i + 2) w
-drop-two w i h =
-    let e : suc i ≡ i + 1 = omega arith in
-    let f : suc (i + 1) ≡ i + 2 = omega arith in
-    drop-cons w i (pos 0) (omega arith)
-    ∙ ap (λ (l : List ℤ). word w i ∷ l)
-    (ap (λ (n : ℕ). drop n w) e ∙ drop-cons w (i + 1) (pos 0) h ∙ ap (λ (n : ℕ). word w (i + 1) ∷ drop n w) f)
-
--- Pair i, and the pairs after it.
-pub pairs-from : (w : List ℤ) (i : ℕ) → 2 * i + 1 < length w
-    → pairs-in (drop (2 * i) w) ≡ record { price = word w (2 * i); quantity = word w (2 * i + 1) } ∷ pairs-in (drop (2 * (i + 1)) w)
-unfolding pairs-in
-pairs-from w i h = let e : 2 * (i + 1) ≡ 2 * i + 2 = omega arith in rw (e, drop-two w (2 * i) h)
-
--- One word alone is no pair.
-too-short : (l : List ℤ) → length l ≤ 1 → pairs-in l ≡ []
-unfolding pairs-in
-too-short [] h = refl
-too-short (p ∷ []) h = refl
-too-short (p ∷ (q ∷ l)) h = absurd (omega arith)
-
-pub no-pairs-from : (w : List ℤ) (i : ℕ) → length w ≤ 2 * i + 1 → pairs-in (drop (2 * i) w) ≡ []
-no-pairs-from w i h = too-short (drop (2 * i) w) (rw (length-drop (2 * i) w) (omega arith))
+use Rattle.offer_rules.proofs.Pairs.{pairs-from, no-pairs-from}
 
 pub total-from : (w : List ℤ) (i : ℕ) → 2 * i + 1 < length w
     → total-tenths (pairs-in (drop (2 * i) w)) ≡ toNat (word w (2 * i + 1)) + total-tenths (pairs-in (drop (2 * (i + 1)) w))
@@ -41,4 +16,4 @@ total-from w i h = ap total-tenths (pairs-from w i h)
 
 pub total-at-end : (w : List ℤ) (i : ℕ) → length w ≤ 2 * i + 1 → total-tenths (pairs-in (drop (2 * i) w)) ≡ 0
 unfolding total-tenths
-total-at-end w i h = ap total-tenths (no-pairs-from w i h)
+total-at-end w i h = ap total-tenths (no-pairs-from w (2 * i) h)

@@ -1,14 +1,13 @@
 -- An offer's numbers in two stages: 5 to 16, and what is drawn over the offer that is held or in force.
 use mathlib.Core.Path.{_≡_, refl, sym, _∙_, ap}
-use mathlib.Core.Bool.{Bool, true, false, cond}
-use mathlib.Core.List.{List, [], _∷_}
+use mathlib.Core.Bool.{true}
+use mathlib.Core.List.{List}
 use mathlib.Core.Option.{Option, none, some}
 use Prim.Native.Nat.{ℕ, _<_, _≤_}
 use native.Mathlib.Omega.{arith}
-use lib.Dec.{eqb}
-use lib.IntN.{ℤ, pos}
+use lib.IntN.{ℤ}
 use Rattle.offer_rules.specs.Numbers.{toNat, word, draw, _then_}
-use Rattle.offer_rules.specs.Time.{slots, start-of, horizon-end}
+use Rattle.offer_rules.specs.Time.{slots}
 use Rattle.offer_rules.specs.Offer.{standing-rules, variation-rules}
 use Rattle.offer_rules.specs.Gate.{Grounds, is-open, gate-refuses}
 use Rattle.offer_rules.proofs.Drawn.{then-zero, then-assoc}

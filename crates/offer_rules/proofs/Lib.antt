@@ -1,3 +1,4 @@
 -- Laws of the definitions in specs/.
 pub mod Drawn
 pub mod Periods
+pub mod Pairs

@@ -1,5 +1,5 @@
 -- The rules' numbers as the code picks them, test by test.
-use mathlib.Core.Path.{_≡_, refl, sym, ap, _∙_, subst}
+use mathlib.Core.Path.{_≡_, refl, sym, ap, _∙_}
 use mathlib.Core.Bool.{Bool, true, false, not, cond, _||_}
 use mathlib.Core.List.{List}
 use Prim.Native.Nat.{ℕ, _≤_}
@@ -8,6 +8,7 @@ use lib.Dec.{T, ltb}
 use lib.IntN.{ℤ}
 use Rattle.offer_rules.specs.Numbers.{draw, _then_}
 use Rattle.offer_rules.specs.Offer.{pairs, sum-of, lowest-price, highest-price, any-pair, out-of-range, is-priced-blank, non-blank-prices, rises, ramp-refused, proportion-refused, above-capacity, offer-number}
+use Rattle.offer_rules.proofs.Drawn.{or-right}
 use Rattle.units.specs.Typed.{price-of}
 use Rattle.offers.specs.declared.pairs.Findings.{Findings}
 use Rattle.offers.specs.PairTests.{found-in}
@@ -37,10 +38,6 @@ number-picked limits c s reason o =
 abbrev pub five-picked : Bool → Bool → Bool → Bool → Bool → ℕ
 five-picked b c d e f = cond b 12 (cond c 13 (cond d 14 (cond e 15 (cond f 16 0))))
 
-or-left : (x y : Bool) → (x || y) ≡ false → y ≡ false
-or-left true y h = absurd (subst T h tt)
-or-left false y h = h
-
 module _ (limits c : List ℤ) (s reason : ℕ) (o : List ℤ) (f : Findings)
     (is-found : f ≡ found-in (price-of (lowest-price limits s)) (price-of (highest-price limits s)) (pairs o)) where
   range-found : (ltb 6 reason || f .outside) ≡ out-of-range limits s reason o
@@ -53,7 +50,7 @@ module _ (limits c : List ℤ) (s reason : ℕ) (o : List ℤ) (f : Findings)
   pub number-found : (ltb 6 reason || f .outside) ≡ false
       → offer-number limits c s reason o ≡ five-picked (f .priced) (not (f .rises)) (ramp-refused c s o) (proportion-refused c s o) (above-capacity c s (f .total .0))
   number-found h =
-      let k = found-are limits s (pairs o) (ap (λ (g : Findings). g .outside) (sym is-found) ∙ or-left (ltb 6 reason) (f .outside) h) in
+      let k = found-are limits s (pairs o) (ap (λ (g : Findings). g .outside) (sym is-found) ∙ or-right (ltb 6 reason) (f .outside) h) in
       number-picked limits c s reason o
       ∙ rw (
         ← range-found,

@@ -1,23 +1,24 @@
 -- What a walk through the pairs finds is what refusals 11 to 13 ask of them.
 use mathlib.Core.Path.{_≡_, refl, sym, ap, _∙_, subst}
-use mathlib.Core.Bool.{Bool, true, false, not, cond, _&&_, _||_}
+use mathlib.Core.Bool.{Bool, true, false, not, cond, _&&_, _||_, and-true, or-false, or-assoc}
 use mathlib.Core.List.{List, [], _∷_}
 use Prim.Native.Nat.{ℕ, zero, suc, _+_, _*_, _<_, _≤_}
 use native.Mathlib.Omega.{arith}
-use borrow.Author.Tests.{ltb-false, eqb-true}
+use borrow.Author.Tests.{ltb-false, eqb-true, not-true}
 use lib.Dec.{T, eqb}
 use lib.ListN.{length, getD, drop}
 use lib.Signed.{ltZ}
 use lib.IntN.{ℤ, pos, negsuc, natAbs, _+ℤ_, +ℤ-assoc, +ℤ-idl, +ℤ-idr}
 use Rattle.offer_rules.specs.Numbers.{eqZ, beyond, any-beyond}
 use Rattle.offer_rules.specs.Offer.{Pair, pairs-in, is-blank, sum-of, lowest-price, highest-price, any-pair, pair-out-of-range, is-priced-blank, non-blank-prices, rises}
+use Rattle.offer_rules.proofs.Drawn.{and-left, and-right, or-left, or-right}
+use Rattle.offer_rules.proofs.Pairs.{pair-at, pairs-from, no-pairs-from}
 use Rattle.units.specs.Typed.{price-of, quantity-of}
 use Rattle.units.specs.declared.Price.{Price}
 use Rattle.units.specs.declared.Quantity.{Quantity}
 use Rattle.units.proofs.Adding.{abs-add}
 use Rattle.offers.specs.declared.pairs.Findings.{Findings}
 use Rattle.offers.specs.PairTests.{blank, outside, still-rises, with-blank, with-filled, with-pair, none-yet, refused, found-from, found-in, do-five-suffice}
-use Rattle.offers.proofs.Pairing.{pair-at, pairs-from, pairs-end}
 
 -- ---- the walk, turn by turn
 
@@ -42,7 +43,7 @@ module _ (lowest highest : Price) (f : Findings) (ws : List ℤ) (i : ℕ) (p : 
 
 pub found-whole : (lowest highest : Price) (f : Findings) (ws : List ℤ) (n : ℕ) → length ws ≤ n → found-from lowest highest f (pairs-in (drop n ws)) ≡ f
 unfolding found-from
-found-whole lowest highest f ws n h = ap (found-from lowest highest f) (pairs-end ws n h)
+found-whole lowest highest f ws n h = ap (found-from lowest highest f) (no-pairs-from ws n (omega arith))
 
 -- ---- 11: some pair
 
@@ -86,14 +87,6 @@ found-walked limits s f (x ∷ l) h =
 
 -- ---- 12: a blank pair with a price
 
-or-false : (x : Bool) → x ≡ (x || false)
-or-false true = refl
-or-false false = refl
-
-or-assoc : (x y z : Bool) → ((x || y) || z) ≡ (x || (y || z))
-or-assoc true y z = refl
-or-assoc false y z = refl
-
 priced-on : (f : Findings) (p : Price) (q : Quantity) (b t : Bool)
     → (cond b (with-blank f p) (with-filled f p q) .priced || t) ≡ (f .priced || ((b && not (eqZ (p .0) (pos 0))) || t))
 unfolding with-blank with-filled
@@ -102,7 +95,7 @@ priced-on f p q false t = refl
 
 walked-priced : (f : Findings) (l : List Pair) → walked f l .priced ≡ (f .priced || any-pair is-priced-blank l)
 unfolding any-pair is-priced-blank is-blank
-walked-priced f [] = or-false (f .priced)
+walked-priced f [] = sym (or-false (f .priced))
 walked-priced f (x ∷ l) =
     let p = price-of (x .price) in
     let q = quantity-of (x .quantity) in
@@ -113,10 +106,6 @@ walked-priced f (x ∷ l) =
 -- strictly rising after a price, if there is any
 abbrev rises-after : Bool → ℤ → List ℤ → Bool
 rises-after any last ps = cond any (rises (last ∷ ps)) (rises ps)
-
-and-true : (x : Bool) → x ≡ (x && true)
-and-true true = refl
-and-true false = refl
 
 rises-none : (any : Bool) (last : ℤ) → true ≡ rises-after any last []
 unfolding rises
@@ -139,7 +128,7 @@ rises-on f p q false ps = rises-past (f .rises) (f .any) (f .last) p ps
 
 walked-rises : (f : Findings) (l : List Pair) → walked f l .rises ≡ (f .rises && rises-after (f .any) (f .last .0) (non-blank-prices l))
 unfolding non-blank-prices is-blank
-walked-rises f [] = and-true (f .rises) ∙ ap (λ (t : Bool). f .rises && t) (rises-none (f .any) (f .last .0))
+walked-rises f [] = sym (and-true (f .rises)) ∙ ap (λ (t : Bool). f .rises && t) (rises-none (f .any) (f .last .0))
 walked-rises f (x ∷ l) =
     let p = price-of (x .price) in
     let q = quantity-of (x .quantity) in
@@ -192,25 +181,12 @@ with-empty : (f : Findings) → with-pair f (price-of (pos 0)) (quantity-of (pos
 unfolding with-blank
 with-empty f =
     ap (λ (t : Bool). record { outside = f .outside; priced = t; rises = f .rises; any = f .any; last = f .last; total = f .total })
-    (sym (or-false (f .priced)))
-
-neither : (x y : Bool) → (x || y) ≡ false → (x ≡ false) × (y ≡ false)
-neither true y h = absurd (subst T h tt)
-neither false y h = (refl, h)
-
-both : (x y : Bool) → (x && y) ≡ true → (x ≡ true) × (y ≡ true)
-both true y h = (refl, h)
-both false y h = absurd (subst T (sym h) tt)
-
-neither-of : (x y : Bool) → (not x && not y) ≡ true → (x ≡ false) × (y ≡ false)
-neither-of false false h = (refl, refl)
-neither-of false true h = absurd (subst T (sym h) tt)
-neither-of true y h = absurd (subst T (sym h) tt)
+    (or-false (f .priced))
 
 -- a word that is not outside 0 to 0
 word-zero : (z : ℤ) → beyond (pos 0) (pos 0) z ≡ false → z ≡ pos 0
 word-zero (pos n) h =
-    let e = ltb-false 0 n (neither (ltZ (pos n) (pos 0)) (ltZ (pos 0) (pos n)) h .1) in
+    let e = ltb-false 0 n (or-right (ltZ (pos n) (pos 0)) (ltZ (pos 0) (pos n)) h) in
     ap pos (omega arith)
 word-zero (negsuc n) h = absurd (subst T h tt)
 
@@ -219,9 +195,11 @@ two-zero : (ws : List ℤ) (i n : ℕ) → any-beyond (pos 0) (pos 0) ws i (suc 
     → (getD ws i (pos 0) ≡ pos 0) × (getD ws (suc i) (pos 0) ≡ pos 0) × (any-beyond (pos 0) (pos 0) ws (suc (suc i)) n ≡ false)
 unfolding any-beyond
 two-zero ws i n h =
-    let a = neither (beyond (pos 0) (pos 0) (getD ws i (pos 0))) (any-beyond (pos 0) (pos 0) ws (suc i) (suc n)) h in
-    let b = neither (beyond (pos 0) (pos 0) (getD ws (suc i) (pos 0))) (any-beyond (pos 0) (pos 0) ws (suc (suc i)) n) (a .1) in
-    (word-zero (getD ws i (pos 0)) (a .0), word-zero (getD ws (suc i) (pos 0)) (b .0), b .1)
+    let x = beyond (pos 0) (pos 0) (getD ws i (pos 0)) in
+    let y = beyond (pos 0) (pos 0) (getD ws (suc i) (pos 0)) in
+    let later = any-beyond (pos 0) (pos 0) ws (suc (suc i)) n in
+    let k = or-right x (y || later) h in
+    (word-zero (getD ws i (pos 0)) (or-left x (y || later) h), word-zero (getD ws (suc i) (pos 0)) (or-left y later k), or-right y later k)
 
 module _ (lowest highest : Price) (f : Findings) (ws : List ℤ) (not-out : outside lowest highest (price-of (pos 0)) (quantity-of (pos 0)) ≡ false) where
   -- the last k pairs, from the i-th on
@@ -241,6 +219,7 @@ pub found-in-five : (lowest highest : Price) (f : Findings) (ws : List ℤ) (i :
     → length ws ≡ 20 → (short ≡ true → do-five-suffice lowest highest ws ≡ true) → (eqb i 5 && short) ≡ true → found-from lowest highest f (pairs-in (drop (2 * i) ws)) ≡ f
 unfolding do-five-suffice
 found-in-five lowest highest f ws i short h five t =
-    let a = both (eqb i 5) short t in
-    let z = neither-of (outside lowest highest (price-of (pos 0)) (quantity-of (pos 0))) (any-beyond (pos 0) (pos 0) ws 10 10) (five (a .1)) in
-    rw (eqb-true i 5 (a .0)) (empty-change-nothing lowest highest f ws (z .0) 5 5 h (z .1))
+    let out = outside lowest highest (price-of (pos 0)) (quantity-of (pos 0)) in
+    let any = any-beyond (pos 0) (pos 0) ws 10 10 in
+    let z = five (and-right (eqb i 5) short t) in
+    rw (eqb-true i 5 (and-left (eqb i 5) short t)) (empty-change-nothing lowest highest f ws (not-true out (and-left (not out) (not any) z)) 5 5 h (not-true any (and-right (not out) (not any) z)))

@@ -53,18 +53,3 @@ stray-of-offer k s b n h = go (eqb k 3) (eqb k 4) refl refl h
     go true u e f g = rw (eqb-true k 3 e) (sym (stray-of-3 s b n))
     go false true e f g = rw (eqb-true k 4 f) (sym (stray-of-4 s b n))
     go false false e f g = absurd (subst T (sym g) tt)
-
--- neither
-pub no-offer-3 : (k : ℕ) → (eqb k 3 || eqb k 4) ≡ false → eqb k 3 ≡ false
-no-offer-3 k h = go (eqb k 3) (eqb k 4) h
-  where
-    go : (t u : Bool) → (t || u) ≡ false → t ≡ false
-    go true u h = h
-    go false u h = refl
-
-pub no-offer-4 : (k : ℕ) → (eqb k 3 || eqb k 4) ≡ false → eqb k 4 ≡ false
-no-offer-4 k h = go (eqb k 3) (eqb k 4) h
-  where
-    go : (t u : Bool) → (t || u) ≡ false → u ≡ false
-    go true u h = absurd (subst T h tt)
-    go false u h = h

@@ -45,6 +45,7 @@ fn signed_from(bits: u32) -> i32
     }
 }
 
+// The bits of a word.
 fn four_at(bytes: &[u8], at: usize) -> u32
     requires { ⌜ at + 4 ≤ length (now bytes) ⌝ }
     ensures { λ r. ⌜ signed r ≡ word-at (now (bytes .entry)) at ⌝ }

@@ -1,4 +1,4 @@
-use mathlib.Core.Path.{_≡_, _∙_}
+use mathlib.Core.Path.{_∙_}
 use native.Mathlib.Omega.{arith}
 use mir.Syntax.{w32}
 use mir.Facts.{toZ-ofZ}

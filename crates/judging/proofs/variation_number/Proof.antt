@@ -10,12 +10,11 @@ use Rattle.judging.proofs.services.Reads as services-reads
 use Rattle.judging.proofs.variation_rules_number.Reads as variation-rules-number-reads
 use Rattle.judging.proofs.wide.Reads as wide-reads
 use Rattle.units.proofs.nat.Reads as nat-reads
-use mathlib.Core.Path.{_≡_, refl, sym, _∙_, ap, ap₂}
+use mathlib.Core.Path.{_≡_, sym, _∙_, ap, ap₂}
 use mathlib.Core.Bool.{true}
-use mathlib.Core.List.{List}
-use Prim.Native.Nat.{ℕ, _+_, _*_, _-_, _≤_, _<_}
+use Prim.Native.Nat.{ℕ, _-_, _<_}
 use native.Mathlib.Omega.{arith}
-use lib.IntN.{ℤ, pos}
+use lib.IntN.{ℤ}
 use mir.Syntax.{w32}
 use mir.Facts.{toZ-ofZ}
 use Rattle.offer_rules.specs.Numbers.{toNat, word, _then_}

@@ -1,7 +1,7 @@
 use borrow.Author.Needs.{needs}
 use Rattle.judging.proofs.variation_rules_number.Statement.{statement}
 use Rattle.judging.proofs.variation_rules_number.Tie as tie
-use mathlib.Core.Path.{_≡_, refl, _∙_}
+use mathlib.Core.Path.{refl, _∙_}
 use Prim.Native.Nat.{ℕ, _+_, _*_}
 use native.Mathlib.Omega.{arith}
 use mir.Syntax.{w32}

@@ -1,8 +1,8 @@
 -- Calls 3 and 4 by what stands beside an offer, the others by their gaps.
-use mathlib.Core.Bool.{_||_}
 use lib.Dec.{eqb}
+use Rattle.offer_rules.proofs.Drawn.{or-left, or-right}
 use Rattle.book_rules.specs.Record.{has-stray, byte}
-use Rattle.record.proofs.OfferBytes.{stray-of-offer, no-offer-3, no-offer-4}
+use Rattle.record.proofs.OfferBytes.{stray-of-offer}
 use borrow.Author.Needs.{needs}
 use Rattle.record.proofs.has_stray.Statement.{statement}
 use Rattle.record.proofs.has_stray.Tie as tie
@@ -30,7 +30,7 @@ returns c =
 has-stray-beside-words-requires : tie.Need-has-stray-beside-words-requires
 has-stray-beside-words-requires c κs =
     let b = c .before .before .before .args .bytes .now in
-    (c .before .before .before .pre, no-offer-3 (byte b 5) (c .if1 .left), no-offer-4 (byte b 5) (c .if1 .left))
+    (c .before .before .before .pre, or-left (eqb (byte b 5) 3) (eqb (byte b 5) 4) (c .if1 .left), or-right (eqb (byte b 5) 3) (eqb (byte b 5) 4) (c .if1 .left))
 
 returns-2 : tie.Need-returns-2
 unfolding has-stray

@@ -1,6 +1,6 @@
 -- Facility and service against F and S, where used.
 -- The two bytes are used as `used` says at 6 and 7; where both are below, it doesn't matter.
-use mathlib.Core.Path.{_≡_, refl, sym}
+use mathlib.Core.Path.{_≡_}
 use mathlib.Core.Bool.{Bool, true, false, _&&_, _||_, and-true, and-false}
 use lib.Dec.{leb}
 use Rattle.book_rules.specs.Record.{facility-of, service-of, uses, outside}

@@ -1,5 +1,5 @@
 -- Each half has the bits of a word.
-use mathlib.Core.Path.{_≡_, _∙_, ap}
+use mathlib.Core.Path.{_∙_, ap}
 use Rattle.book_rules.specs.Record.{signed}
 use borrow.Author.Needs.{needs}
 use Rattle.record.proofs.two_words_at.Statement.{statement}
