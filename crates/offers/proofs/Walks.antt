@@ -48,7 +48,7 @@ found-whole lowest highest f ws n h = ap (found-from lowest highest f) (no-pairs
 -- ---- 11: some pair
 
 -- a pair more leaves this flag
-outside-kept : (f : Findings) (p : Price) (q : Quantity) (b : Bool) → cond b (with-blank f p) (with-filled f p q) .outside ≡ f .outside
+pub outside-kept : (f : Findings) (p : Price) (q : Quantity) (b : Bool) → cond b (with-blank f p) (with-filled f p q) .outside ≡ f .outside
 unfolding with-blank with-filled
 outside-kept f p q true = refl
 outside-kept f p q false = refl
@@ -214,12 +214,32 @@ module _ (lowest highest : Price) (f : Findings) (ws : List ℤ) (not-out : outs
       ∙ ap (λ (g : Findings). found-from lowest highest g (pairs-in (drop (2 * (i + 1)) ws))) (with-empty f)
       ∙ empty-change-nothing k (i + 1) (omega arith) (rw b (t .2))
 
--- at the sixth pair
-pub found-in-five : (lowest highest : Price) (f : Findings) (ws : List ℤ) (i : ℕ) (short : Bool)
-    → length ws ≡ 20 → (short ≡ true → do-five-suffice lowest highest ws ≡ true) → (eqb i 5 && short) ≡ true → found-from lowest highest f (pairs-in (drop (2 * i) ws)) ≡ f
+-- from the sixth pair on
+pub found-in-five : (lowest highest : Price) (f : Findings) (ws : List ℤ)
+    → length ws ≡ 20 → do-five-suffice lowest highest ws ≡ true → found-from lowest highest f (pairs-in (drop 10 ws)) ≡ f
 unfolding do-five-suffice
-found-in-five lowest highest f ws i short h five t =
+found-in-five lowest highest f ws h z =
     let out = outside lowest highest (price-of (pos 0)) (quantity-of (pos 0)) in
     let any = any-beyond (pos 0) (pos 0) ws 10 10 in
-    let z = five (and-right (eqb i 5) short t) in
-    rw (eqb-true i 5 (and-left (eqb i 5) short t)) (empty-change-nothing lowest highest f ws (not-true out (and-left (not out) (not any) z)) 5 5 h (not-true any (and-right (not out) (not any) z)))
+    empty-change-nothing lowest highest f ws (not-true out (and-left (not out) (not any) z)) 5 5 h (not-true any (and-right (not out) (not any) z))
+
+-- ---- a walk in two parts, each of which ends at a pair that 11 refuses
+
+module _ (lowest highest : Price) (ws : List ℤ) (h : length ws ≡ 20) where
+  -- what is found from the sixth pair on, after r
+  abbrev after : Findings → Findings
+  after r = found-from lowest highest r (pairs-in (drop 10 ws))
+
+  pub ends-at-five : (r : Findings) (short : Bool) → (short ≡ true → do-five-suffice lowest highest ws ≡ true) → (r .outside || short) ≡ true → cond (r .outside) r (after r) ≡ r
+  ends-at-five r short five e = go (r .outside) refl
+    where
+      go : (t : Bool) → r .outside ≡ t → cond t r (after r) ≡ r
+      go true k = refl
+      go false k = found-in-five lowest highest r ws h (five (rw k at e))
+
+  pub goes-on : (r : Findings) (t : Bool) → t ≡ false → cond t r (after r) ≡ after r
+  goes-on r t k = rw k
+
+  pub ends-at-ten : (r : Findings) (t : Bool) → cond t r (found-from lowest highest r (pairs-in (drop 20 ws))) ≡ r
+  ends-at-ten r true = refl
+  ends-at-ten r false = found-whole lowest highest r ws 20 (omega arith)

@@ -1,14 +1,14 @@
 // The pairs of an offer: ten quantities added, and the tests of refusals 11 to 13.
 // Prices and quantities have types of their own, so that neither is taken for the other.
 ghost use mathlib.Core.Path.{_≡_};
-ghost use mathlib.Core.Bool.{true, not};
-ghost use Prim.Native.Nat.{_≤_};
+ghost use mathlib.Core.Bool.{true, false, not, cond};
+ghost use Prim.Native.Nat.{_*_, _≤_};
 ghost use lib.IntN.{pos, natAbs, _+ℤ_};
-ghost use lib.ListN.{length};
+ghost use lib.ListN.{length, drop};
 ghost use Rattle.offer_rules.specs.Numbers.{any-beyond};
 ghost use Rattle.offer_rules.specs.Offer.{pairs-in, pairs, sum-of, lowest-price, highest-price};
 ghost use Rattle.units.specs.Typed.{price-of};
-ghost use Rattle.offers.specs.PairTests.{blank, outside, still-rises, with-blank, with-filled, with-pair, found-in, do-five-suffice};
+ghost use Rattle.offers.specs.PairTests.{blank, outside, still-rises, with-blank, with-filled, with-pair, found-from, found-in, do-five-suffice};
 use units::Price;
 use units::Quantity;
 use units::any_beyond;
@@ -142,24 +142,21 @@ fn do_five_suffice(lowest: Price, highest: Price, service: u8, pairs: &[i32]) ->
     !is_out_of_range(lowest, highest, Price(0), Quantity(0)) & are_last_five_empty(pairs)
 }
 
-// The walk ends at the first pair that 11 refuses: no number below 11 is left to be drawn from pairs.
-// It is short, and ends after five pairs, where the others would change nothing.
-fn findings_in(lowest: Price, highest: Price, pairs: &[i32], short: bool) -> Findings
-    requires { ⌜ (length (now pairs) ≡ 20) × (short ≡ true → do-five-suffice lowest highest (now pairs) ≡ true) ⌝ }
-    ensures { λ r. ⌜ r ≡ found-in lowest highest (pairs-in (now (pairs .entry))) ⌝ }
+// The pairs from one to before another, after findings f. The walk ends at the first that 11 refuses: no number below 11 is left to be
+// drawn from pairs.
+fn walk(
+    lowest: Price,
+    highest: Price,
+    start: Findings,
+    pairs: &[i32],
+    from: usize,
+    to: usize,
+) -> Findings
+    requires { ⌜ (from ≤ to) × (to ≤ 10) × (length (now pairs) ≡ 20) × (start .outside ≡ false) × (natAbs (start .total .0) ≤ from * 2147483648) ⌝ }
+    ensures { λ r. ⌜ (found-from lowest highest start (pairs-in (drop (2 * from) (now (pairs .entry)))) ≡ cond (r .outside) r (found-from lowest highest r (pairs-in (drop (2 * to) (now (pairs .entry)))))) × (natAbs (r .total .0) ≤ to * 2147483648) ⌝ }
 {
-    let mut f = Findings {
-        outside: false,
-        priced: false,
-        rises: true,
-        any: false,
-        last: Price(0),
-        total: Sum(0),
-    };
-    for i in 0..10usize {
-        if (i == 5) & short {
-            return f;
-        }
+    let mut f = start;
+    for i in from..to {
         let price = price_at(pairs, 2 * i);
         let quantity = quantity_at(pairs, 2 * i + 1);
         if is_out_of_range(lowest, highest, price, quantity) {
@@ -175,6 +172,26 @@ fn findings_in(lowest: Price, highest: Price, pairs: &[i32], short: bool) -> Fin
         f = with_pair(f, price, quantity);
     }
     f
+}
+
+// All ten pairs. It is short, and ends after five, where the others would change nothing.
+fn findings_in(lowest: Price, highest: Price, pairs: &[i32], short: bool) -> Findings
+    requires { ⌜ (length (now pairs) ≡ 20) × (short ≡ true → do-five-suffice lowest highest (now pairs) ≡ true) ⌝ }
+    ensures { λ r. ⌜ r ≡ found-in lowest highest (pairs-in (now (pairs .entry))) ⌝ }
+{
+    let none = Findings {
+        outside: false,
+        priced: false,
+        rises: true,
+        any: false,
+        last: Price(0),
+        total: Sum(0),
+    };
+    let five = walk(lowest, highest, none, pairs, 0, 5);
+    if five.outside | short {
+        return five;
+    }
+    walk(lowest, highest, five, pairs, 5, 10)
 }
 
 // "services 1–4 from 0"

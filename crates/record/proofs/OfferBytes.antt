@@ -1,13 +1,13 @@
 -- Calls 3 and 4 use bytes 6 to 11 or 12 and then those of an offer, by its service.
 -- So their stray bytes are in a gap before byte 13, or beside the offer's from there on.
-use mathlib.Core.Path.{_≡_, refl, sym, ap, _∙_, subst}
+use mathlib.Core.Path.{_≡_, refl, ap, _∙_}
 use mathlib.Core.Bool.{Bool, true, false, cond, _&&_, _||_, and-false, or-false}
 use mathlib.Core.List.{List, [], _∷_}
 use Prim.Native.Nat.{ℕ, _<_}
 use native.Mathlib.Omega.{arith}
-use lib.Dec.{T, eqb, ltb, leb}
-use lib.ListN.{length, drop}
-use borrow.Author.Tests.{lt-leb, eqb-true}
+use lib.Dec.{eqb, ltb, leb}
+use lib.ListN.{length, getD, drop}
+use borrow.Author.Tests.{lt-leb, eqb-true, eq-eqb, ne-eqb}
 use Rattle.book_rules.specs.Record.{any-stray, between, used-by-offer, used}
 use Rattle.record.specs.Gaps.{any-set}
 use Rattle.record.proofs.StrayBytes.{Gap, gap, fit, set-or, all-used, all-unused, stray-or-later, stray-alike}
@@ -44,12 +44,20 @@ stray-of-4 : (s : ℕ) (b : List ℕ) → length b ≡ 112 → any-stray (used 4
 unfolding used fit set-or all-used all-unused
 stray-of-4 s b n = stray-beside-offer (used 4 s) s 12 b [] (omega arith) n (λ i. refl) refl
 
-pub stray-of-offer : (k s : ℕ) (b : List ℕ) → length b ≡ 112 → (eqb k 3 || eqb k 4) ≡ true
-    → ((eqb k 3 && any-set b 12 1) || any-stray (used-by-offer s) 13 (drop 13 b)) ≡ any-stray (used k s) 6 (drop 6 b)
-stray-of-offer k s b n h = go (eqb k 3) (eqb k 4) refl refl h
-  where
-    go : (t u : Bool) → eqb k 3 ≡ t → eqb k 4 ≡ u → (t || u) ≡ true
-        → ((t && any-set b 12 1) || any-stray (used-by-offer s) 13 (drop 13 b)) ≡ any-stray (used k s) 6 (drop 6 b)
-    go true u e f g = rw (eqb-true k 3 e) (sym (stray-of-3 s b n))
-    go false true e f g = rw (eqb-true k 4 f) (sym (stray-of-4 s b n))
-    go false false e f g = absurd (subst T (sym g) tt)
+module _ (k s : ℕ) (b : List ℕ) (n : length b ≡ 112) where
+  abbrev stray : Bool
+  stray = any-stray (used k s) 6 (drop 6 b)
+
+  abbrev beside : Bool
+  beside = any-stray (used-by-offer s) 13 (drop 13 b)
+
+  pub stray-at-12 : k ≡ 3 → (getD b 12 0 ≡ 0 → ⊥) → stray ≡ true
+  unfolding any-set
+  stray-at-12 e h = rw e (stray-of-3 s b n ∙ rw (ne-eqb (getD b 12 0) 0 h))
+
+  pub none-at-12 : k ≡ 3 → getD b 12 0 ≡ 0 → stray ≡ beside
+  unfolding any-set
+  none-at-12 e h = rw e (stray-of-3 s b n ∙ rw (eq-eqb (getD b 12 0) 0 h))
+
+  pub reason-at-12 : (k ≡ 3 → ⊥) → (eqb k 3 || eqb k 4) ≡ true → stray ≡ beside
+  reason-at-12 h e = rw (eqb-true k 4 (rw (ne-eqb k 3 h) at e)) (stray-of-4 s b n)

@@ -249,7 +249,12 @@ fn has_stray(bytes: &[u8]) -> bool
 {
     let call = bytes[5];
     if (call == 3) | (call == 4) {
-        return ((call == 3) & any_set(bytes, 12, 13)) | has_stray_beside_offer(bytes, bytes[7]);
+        if call == 3 {
+            if bytes[12] != 0 {
+                return true;
+            }
+        }
+        return has_stray_beside_offer(bytes, bytes[7]);
     }
     has_stray_beside_words(bytes, call)
 }
