@@ -148,14 +148,14 @@ fn first_differing_tenth(old: &[i32], new: &[i32]) -> u64
 }
 
 // "for every n from 1 to the smaller total, the n-th tenth .. has the same price in old and new"
-pub fn same_prices(old: &[i32], new: &[i32]) -> bool
+fn same_prices(old: &[i32], new: &[i32]) -> bool
     requires { ⌜ (length (now old) ≤ 20) × (length (now new) ≤ 20) ⌝ }
     ensures { λ r. ⌜ r ≡ same-prices (pairs-in (now (old .entry))) (pairs-in (now (new .entry))) ⌝ }
 {
     first_differing_tenth(old, new) == 0
 }
 
-pub fn total_tenths(pairs: &[i32]) -> u64
+fn total_tenths(pairs: &[i32]) -> u64
     requires { ⌜ length (now pairs) ≤ 20 ⌝ }
     ensures { λ r. ⌜ (r ≡ total-tenths (pairs-in (now (pairs .entry)))) × (r ≤ 21474836480) ⌝ }
 {
@@ -188,7 +188,7 @@ fn is_load(g: Grounds) -> bool
 }
 
 // "Inside that it needs a reason", with the totals of old and new.
-pub fn reason_holds(g: Grounds, service: u8, period: u64, old: u64, new: u64, reason: u8) -> bool
+fn reason_holds(g: Grounds, service: u8, period: u64, old: u64, new: u64, reason: u8) -> bool
     requires { ⌜ period < 2147483648 ⌝ }
     ensures { λ r. ⌜ r ≡ reason-holds (grounds-of g) service period old new reason ⌝ }
 {
@@ -252,7 +252,7 @@ pub fn gate_refuses(
 }
 
 // "the slot's next period not yet begun"
-pub fn next_period(clock: u64, slot: u64) -> u64
+fn next_period(clock: u64, slot: u64) -> u64
     requires { ⌜ (clock ≤ 1000000000) × (slot < 336) ⌝ }
     ensures { λ r. ⌜ (r ≡ next-period clock slot) × (r < 2147483648) ⌝ }
 {

@@ -22,14 +22,14 @@ use units::quantity_at;
 // Tenths of a MW, added.
 pub struct Sum(pub i64);
 
-pub fn plus(sum: Sum, quantity: Quantity) -> Sum
+fn plus(sum: Sum, quantity: Quantity) -> Sum
     requires { ⌜ natAbs (sum .0) ≤ 4611686018427387904 ⌝ }
     ensures { λ r. ⌜ r .0 ≡ sum .0 +ℤ quantity .0 ⌝ }
 {
     Sum(sum.0 + quantity.0 as i64)
 }
 
-pub fn total_of(pairs: &[i32]) -> Sum
+fn total_of(pairs: &[i32]) -> Sum
     requires { ⌜ length (now pairs) ≡ 20 ⌝ }
     ensures { λ r. ⌜ (r .0 ≡ sum-of (pairs-in (now (pairs .entry)))) × (natAbs (r .0) ≤ 21474836480) ⌝ }
 {

@@ -27,7 +27,7 @@ const LOWEST_LIMIT: i32 = -10000000;
 const HIGHEST_LIMIT: i32 = 10000000;
 
 // "It needs N = 64 + 32·F + 16,128·F·S words."
-pub fn book_size(facilities: usize, services: usize) -> usize
+fn book_size(facilities: usize, services: usize) -> usize
     requires { ⌜ (facilities ≤ 64) × (services ≤ 5) ⌝ }
     ensures { λ r. ⌜ (r ≡ book-size facilities services) × (r ≤ 5163200) ⌝ }
 {

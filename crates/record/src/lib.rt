@@ -70,7 +70,7 @@ fn two_words_at(bytes: &[u8], at: usize) -> u64
 }
 
 // 16 bits, not signed: the proportion, "0 to 65,535".
-pub fn half_at(bytes: &[u8], at: usize) -> i32
+fn half_at(bytes: &[u8], at: usize) -> i32
     requires { ⌜ at + 2 ≤ length (now bytes) ⌝ }
     ensures { λ r. ⌜ r ≡ pos (byte (now (bytes .entry)) at * 256 + byte (now (bytes .entry)) (at + 1)) ⌝ }
 {

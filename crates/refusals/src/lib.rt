@@ -225,7 +225,7 @@ fn is_word_same(held: &[i32], offer: &[i32], at: usize) -> bool
 }
 
 // "equal to the held one in cell words 1–23"
-pub fn equal_words(held: &[i32], offer: &[i32]) -> bool
+fn equal_words(held: &[i32], offer: &[i32]) -> bool
     requires { ⌜ (length (now held) ≡ 23) × (length (now offer) ≡ 23) ⌝ }
     ensures { λ r. ⌜ r ≡ equal-words (now (held .entry)) (now (offer .entry)) ⌝ }
 {
