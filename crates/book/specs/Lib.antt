@@ -1,2 +1,3 @@
--- What a call is tested for before it is carried out.
+-- What a call is tested for before it is carried out, and the version of the library.
 pub mod Tests
+pub mod Version

@@ -2,11 +2,14 @@
 ghost use mathlib.Core.Path.{_≡_};
 ghost use Rattle.book_rules.specs.Book.{book-answer, book-after};
 ghost use Rattle.cells.specs.Meaning.{answer-of};
+ghost use Rattle.book_rules.specs.Words.{book-version};
 ghost use Rattle.book.specs.Tests.{tested-number};
+ghost use Rattle.book.specs.Version.{library-version};
 use cells::Answer;
 use cells::plain;
 use judging::facilities;
 use judging::services;
+use layout::head;
 use opening::is_book;
 use reading::look_up_call;
 use reading::total_call;
@@ -62,4 +65,22 @@ pub fn call(book: &mut [i32], bytes: &[u8]) -> Answer
     ensures { λ r. ⌜ (answer-of r ≡ book-answer (now (book .entry)) (now (bytes .entry))) × (now (book .exit) ≡ book-after (now (book .entry)) (now (bytes .entry))) ⌝ }
 {
     bilzhaan_call(book, bytes)
+}
+
+// 1.0.0, for C to hold against its header's.
+const LIBRARY_VERSION: u32 = 10000;
+
+#[no_mangle]
+pub extern "C" fn bilzhaan_version() -> u32
+    ensures { λ r. ⌜ r ≡ library-version ⌝ }
+{
+    LIBRARY_VERSION
+}
+
+// Head word 1 of the books that this library opens and reads.
+#[no_mangle]
+pub extern "C" fn bilzhaan_book_version() -> i32
+    ensures { λ r. ⌜ r ≡ book-version ⌝ }
+{
+    head::BOOK_VERSION
 }

@@ -1,0 +1,15 @@
+// "Then cells of 24 words, numbered ((f·S + s)·2 + h)·336 + slot, h 0 standing, 1 variation: 0 stamp (0 empty, 1 standing, P + 1 variation),
+// 1 proportion, 2 ramp up, 3 ramp down, 4–23 pairs." An offer's words follow the stamp.
+pub const STAMP: usize = 0;
+
+pub const OFFER: usize = 1;
+
+pub const PAIRS: usize = 4;
+
+pub const WORDS: usize = 24;
+
+pub const STANDING_HALF: usize = 0;
+
+pub const VARIATION_HALF: usize = 1;
+
+pub const STANDING_STAMP: u32 = 1;

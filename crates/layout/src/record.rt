@@ -1,0 +1,58 @@
+// A record's bytes.
+// "Bytes 0–2 `SOB`; 3–4 version 1; 5 call; 6 facility; 7 service; 8–11 period word; 12 reason; 13 zero; 14–15 proportion (0 to 65,535);
+// 16–19 ramp up; 20–23 ramp down; 24–27 A; 28–31 B; 32–111 words W0 to W19, in offers ten pairs (price, quantity)."
+pub const CALL: usize = 5;
+
+pub const FACILITY: usize = 6;
+
+pub const SERVICE: usize = 7;
+
+pub const PERIOD: usize = 8;
+
+pub const REASON: usize = 12;
+
+pub const PROPORTION: usize = 14;
+
+pub const RAMP_UP: usize = 16;
+
+pub const RAMP_DOWN: usize = 20;
+
+pub const A: usize = 24;
+
+pub const B: usize = 28;
+
+pub const W0: usize = 32;
+
+pub const BYTES: usize = 112;
+
+// Byte 5: the nine calls.
+pub const CLOCK_CALL: u8 = 1;
+
+pub const CAPABILITY_CALL: u8 = 2;
+
+pub const STANDING_CALL: u8 = 3;
+
+pub const VARIATION_CALL: u8 = 4;
+
+pub const OUTAGE_CALL: u8 = 5;
+
+pub const NOTICE_CALL: u8 = 6;
+
+pub const WITHDRAWAL_CALL: u8 = 7;
+
+pub const LOOK_UP_CALL: u8 = 8;
+
+pub const TOTAL_CALL: u8 = 9;
+
+// Byte 12: the reasons of an offer, of which 3 to 5 are the kinds of a notice.
+pub const SYNCHRONISATION: u8 = 1;
+
+pub const FORCED_OUTAGE: u8 = 2;
+
+pub const ENERGY_SURPLUS: u8 = 3;
+
+pub const SHORTFALL: u8 = 4;
+
+pub const SYSTEM_STATUS: u8 = 5;
+
+pub const LOAD_OUTAGE: u8 = 6;

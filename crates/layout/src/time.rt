@@ -1,0 +1,20 @@
+// "Units and time", and the limits of minutes and periods.
+pub const PERIOD_MINUTES: u64 = 30;
+
+pub const DAY_MINUTES: u64 = 1440;
+
+pub const DAY_PERIODS: u64 = 48;
+
+// A week of periods. As a width of the cells it is a count of words' places, in time a count of periods.
+pub const SLOTS: usize = 336;
+
+// "P ≥ 48·(d + 7)"
+pub const HORIZON_DAYS: u64 = 7;
+
+// "A variation is open when 30·P − now is 65 or more."
+pub const GATE_CLOSURE_MINUTES: u64 = 65;
+
+pub const LAST_MINUTE: i32 = 1000000000;
+
+// "not 0 ≤ A ≤ B ≤ 40,000,000"
+pub const LAST_NOTICE_PERIOD: i32 = 40000000;
