@@ -11,13 +11,13 @@ use lib.IntN.{ℤ}
 use lib.ListN.{getD}
 use borrow.Author.Tests.{eqb-true, eqb-false, eq-eqb, ne-eqb, not-false}
 use Rattle.offer_rules.specs.Numbers.{toNat, draw, _then_}
-use Rattle.offer_rules.specs.Offer.{standing-rules, variation-rules, offer-number}
+use Rattle.offer_rules.specs.Offer.{offer-number}
 use Rattle.offer_rules.specs.Gate.{standing-gate-refuses}
 use Rattle.offer_rules.proofs.Drawn.{then-eq, then-zero, draw-zero, then-assoc}
 use Rattle.book_rules.specs.Record.{call-of, facility-of, service-of, period-word, reason-of, offer-in, is-record, outside, has-stray, record-number}
 use Rattle.book_rules.specs.Words.{is-book}
 use Rattle.book_rules.specs.Force.{View, Answer, plain}
-use Rattle.book_rules.specs.Refusals.{judge, reply, clock-number, capability-number, facility-number, registration-number, revision-number, gate-number, outage-number, notice-number, withdrawal-number, period-number, force-number, standing-number, variation-number, look-up-number, equal-words, number, answer, after}
+use Rattle.book_rules.specs.Refusals.{judge, reply, clock-number, capability-number, facility-number, registration-number, admission-number, admitted-standing, admitted-variation, revision-number, gate-number, outage-number, notice-number, withdrawal-number, period-number, force-number, standing-number, variation-number, look-up-number, equal-words, number, answer, after}
 use Rattle.book_rules.specs.Book.{book-view, book-accept, book-answer, book-after}
 use Rattle.book_rules.specs.ByNumber.{of-held, own-held, conditions-from-5, conditions, applies}
 use Rattle.book_rules.specs.Claims.{is-accepted, RefusedChangesNothing, AcceptedExactly, LowestThatApplies}
@@ -62,11 +62,11 @@ module _ (vw : View) (b : List ℕ) where
   call-lowest (is-capability e) = judge-capability vw b e ∙ unfold capability-number in rw e (simp (or-false, skip, last-drawn))
   call-lowest (is-standing e) =
       judge-standing vw b e
-      ∙ unfold standing-number facility-number registration-number standing-rules offer-number in
+      ∙ unfold standing-number admission-number facility-number registration-number admitted-standing offer-number in
       rw (e, held-numbers) (simp (or-false, skip, last-drawn, then-assoc))
   call-lowest (is-variation e) =
       judge-variation vw b e
-      ∙ unfold variation-number facility-number registration-number variation-rules offer-number gate-number in rw e (simp (or-false, skip, last-drawn, then-assoc))
+      ∙ unfold variation-number admission-number facility-number registration-number admitted-variation offer-number gate-number in rw e (simp (or-false, skip, last-drawn, then-assoc))
   call-lowest (is-outage e) = judge-outage vw b e ∙ unfold facility-number outage-number in rw e (simp (or-false, skip, last-drawn))
   call-lowest (is-notice e) = judge-notice vw b e ∙ unfold notice-number in rw e (simp (or-false, skip, last-drawn))
   call-lowest (is-withdrawal e) = judge-withdrawal vw b e ∙ unfold withdrawal-number in rw e (simp (or-false, skip, last-drawn))

@@ -10,40 +10,34 @@ use lib.IntN.{ℤ, pos, _+ℤ_}
 use borrow.Author.Tests.{eqb-true}
 use Rattle.offer_rules.specs.Numbers.{toNat, draw, _then_}
 use Rattle.offer_rules.specs.Time.{slots, slot-of, start-of, horizon-end, slot-refused, period-refused}
-use Rattle.offer_rules.specs.Offer.{standing-rules, variation-rules, offer-number, kind-of}
+use Rattle.offer_rules.specs.Offer.{offer-number, kind-of}
 use Rattle.offer_rules.specs.Gate.{Window, Grounds}
 use Rattle.offer_rules.proofs.Drawn.{then-eq, then-zero, draw-zero}
 use Rattle.offer_rules.proofs.Periods.{slot-is, period-is}
 use Rattle.book_rules.specs.Record.{call-of, facility-of, service-of, period-word, reason-of, word-A, word-B, capability-in, offer-in, uses, record-number}
-use Rattle.book_rules.specs.Force.{View, InForce, first-of, in-force, counted, quantity-of, count-in-force, sum-in-force, Answer, plain, found, totalled}
-use Rattle.book_rules.specs.Refusals.{clock-number, capability-number, facility-number, registration-number, revision-number, grounds, gate-number, period-number, force-number, standing-number, variation-number, look-up-number, outage-number, judge, reply, look-up-reply, total-reply}
+use Rattle.book_rules.specs.Force.{View, InForce, first-of, in-force, counted, offered, count-in-force, sum-in-force, Answer, plain, found, totalled}
+use Rattle.book_rules.specs.Refusals.{clock-number, capability-number, facility-number, admission-number, admitted-standing, admitted-variation, revision-number, grounds, gate-number, period-number, force-number, standing-number, variation-number, look-up-number, outage-number, judge, reply, look-up-reply, total-reply}
 use Rattle.book_rules.proofs.Calls.{Which, is-clock, is-capability, is-standing, is-variation, is-outage, is-notice, is-withdrawal, is-look-up, is-total, Named, judge-clock, judge-capability, judge-standing, judge-variation, judge-outage, judge-notice, judge-withdrawal, judge-look-up, judge-total, reply-look-up, reply-total, reply-plain, capability-uses, standing-uses, variation-uses, outage-uses, look-up-uses, total-uses}
 
 -- ---- what an accepted offer or look-up has passed
 
-pub slot-passed : (limits c : List ℤ) (s : ℕ) (k : ℤ) (o : List ℤ) → standing-rules limits c s k o ≡ 0 → (k ≡ pos (toNat k)) × (toNat k < slots)
-unfolding standing-rules
-slot-passed limits c s k o e = slot-is k (draw-zero (slot-refused k) 10 (omega arith) (then-zero _ _ e .0))
+-- An offer that is admitted has a slot or a period that is not refused.
+pub admitted : (c : List ℤ) (s : ℕ) (refused : Bool) → admission-number c s refused ≡ 0 → refused ≡ false
+unfolding admission-number
+admitted c s refused e = draw-zero refused 10 (omega arith) (then-zero _ _ (then-zero _ _ e .1) .1)
 
 pub period-passed : (now : ℕ) (p : ℤ) → period-number now p ≡ 0 → (p ≡ pos (toNat p)) × (now < start-of (toNat p)) × (toNat p < horizon-end now)
 unfolding period-number
 period-passed now p e = period-is now p (draw-zero (period-refused now p) 10 (omega arith) e)
 
-pub variation-passed : (now : ℕ) (limits c : List ℤ) (s : ℕ) (p : ℤ) (reason : ℕ) (o : List ℤ) → variation-rules now limits c s p reason o ≡ 0
-    → (p ≡ pos (toNat p)) × (now < start-of (toNat p)) × (toNat p < horizon-end now)
-unfolding variation-rules
-variation-passed now limits c s p reason o e = period-is now p (draw-zero (period-refused now p) 10 (omega arith) (then-zero _ _ e .0))
-
 pub standing-accepted : (vw : View) (f s : ℕ) (k : ℤ) (o : List ℤ) → standing-number vw f s k o ≡ 0 → (k ≡ pos (toNat k)) × (toNat k < slots)
 unfolding standing-number
-standing-accepted vw f s k o e =
-    slot-passed (vw .limits) (vw .capability f) s k o (then-zero _ _ (then-zero _ _ (then-zero _ _ e .1) .1) .0)
+standing-accepted vw f s k o e = slot-is k (admitted (vw .capability f) s (slot-refused k) (then-zero _ _ e .0))
 
 pub variation-accepted : (vw : View) (f s : ℕ) (p : ℤ) (reason : ℕ) (o : List ℤ) → variation-number vw f s p reason o ≡ 0
     → (p ≡ pos (toNat p)) × (vw .now < start-of (toNat p)) × (toNat p < horizon-end (vw .now))
 unfolding variation-number
-variation-accepted vw f s p reason o e =
-    variation-passed (vw .now) (vw .limits) (vw .capability f) s p reason o (then-zero _ _ (then-zero _ _ (then-zero _ _ e .1) .1) .0)
+variation-accepted vw f s p reason o e = period-is (vw .now) p (admitted (vw .capability f) s (period-refused (vw .now) p) (then-zero _ _ e .0))
 
 -- Q says for which facilities two states show the same.
 module _ (F S : ℕ) (Q : ℕ → Type 0) where
@@ -76,25 +70,23 @@ module _ (F S : ℕ) (Q : ℕ → Type 0) where
     }
 
     standing-number-same : (f s : ℕ) (k : ℤ) (o : List ℤ) → Q f → f < F → s < S → standing-number u f s k o ≡ standing-number v f s k o
-    unfolding standing-number
+    unfolding standing-number admitted-standing
     standing-number-same f s k o q hf hs =
         let c = r .capability-same f q hf in
-        then-eq _ _ _ _ (ap facility-number c) λ _.
-        then-eq _ _ _ _ (ap (λ (x : List ℤ). registration-number x s) c) λ _.
-        then-eq _ _ _ _ (ap₂ (λ (l x : List ℤ). standing-rules l x s k o) (r .limits-same) c) λ e.
+        then-eq _ _ _ _ (ap (λ (x : List ℤ). admission-number x s (slot-refused k)) c) λ e.
+        then-eq _ _ _ _ (ap₂ (λ (l x : List ℤ). offer-number l x s 0 o) (r .limits-same) c) λ _.
         ap₂ (λ (n : ℕ) (held : Option (List ℤ)). revision-number n (toNat k) held o) (r .now-same)
-        (r .standing-same f s (toNat k) q hf hs (slot-passed (u .limits) (u .capability f) s k o e .1))
+        (r .standing-same f s (toNat k) q hf hs (slot-is k (admitted (u .capability f) s (slot-refused k) e) .1))
 
     variation-number-same : (f s : ℕ) (p : ℤ) (reason : ℕ) (o : List ℤ) → Q f → f < F → s < S
         → variation-number u f s p reason o ≡ variation-number v f s p reason o
-    unfolding variation-number
+    unfolding variation-number admitted-variation
     variation-number-same f s p reason o q hf hs =
         let c = r .capability-same f q hf in
-        then-eq _ _ _ _ (ap facility-number c) λ _.
-        then-eq _ _ _ _ (ap (λ (x : List ℤ). registration-number x s) c) λ _.
-        then-eq _ _ _ _ (ap₂ (λ (n : ℕ) (x : List ℤ). variation-rules n (u .limits) x s p reason o) (r .now-same) c ∙ ap (λ (l : List ℤ). variation-rules (v .now) l (v .capability f) s p reason o) (r .limits-same)) λ e.
+        then-eq _ _ _ _ (ap₂ (λ (n : ℕ) (x : List ℤ). admission-number x s (period-refused n p)) (r .now-same) c) λ e.
+        then-eq _ _ _ _ (ap₂ (λ (l x : List ℤ). offer-number l x s reason o) (r .limits-same) c) λ _.
         ap₂ (λ (g : Grounds) (x : InForce). gate-number (u .now) g s (toNat p) reason x o) (grounds-same f q hf)
-        (force-same f s (toNat p) q hf hs (variation-passed (u .now) (u .limits) (u .capability f) s p reason o e .1))
+        (force-same f s (toNat p) q hf hs (period-is (u .now) p (admitted (u .capability f) s (period-refused (u .now) p) e) .1))
         ∙ ap (λ (n : ℕ). gate-number n (grounds v f) s (toNat p) reason (in-force v f s (toNat p)) o) (r .now-same)
 
     look-up-number-same : (f s : ℕ) (p : ℤ) → Q f → f < F → s < S → look-up-number u f s p ≡ look-up-number v f s p
@@ -158,7 +150,7 @@ module _ (F S : ℕ) (Q : ℕ → Type 0) where
       sum-same : (n : ℕ) → n ≤ F → sum-in-force u s p n ≡ sum-in-force v s p n
       unfolding sum-in-force
       sum-same zero h = refl
-      sum-same (suc n) h = ap₂ (λ (z : ℤ) (x : InForce). z +ℤ quantity-of x) (sum-same n (omega arith)) (force-same n s p (all n) h hs hp)
+      sum-same (suc n) h = ap₂ (λ (z : ℤ) (x : InForce). z +ℤ offered x) (sum-same n (omega arith)) (force-same n s p (all n) h hs hp)
 
       total-same : total-reply u s p ≡ total-reply v s p
       unfolding total-reply

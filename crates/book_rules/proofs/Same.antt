@@ -14,7 +14,6 @@ use lib.ListN.{length, drop}
 use borrow.Author.Tests.{ltb-false, leb-true, ne-eqb, le-ltb, not-false}
 use Rattle.offer_rules.specs.Numbers.{eqZ, toNat, word, beyond, draw, _then_}
 use Rattle.offer_rules.specs.Time.{slots, slot-of, start-of, horizon-end}
-use Rattle.offer_rules.specs.Offer.{standing-rules, variation-rules}
 use Rattle.offer_rules.specs.Gate.{Window}
 use Rattle.offer_rules.proofs.Drawn.{and-left, and-right, or-left, or-right, then-zero, draw-zero}
 use Rattle.offer_rules.proofs.Periods.{within, one-of-a-slot}

@@ -5,12 +5,11 @@ use mathlib.Core.Option.{Option, none, some}
 use Prim.Native.Nat.{ℕ}
 use lib.Dec.{eqb}
 use lib.IntN.{ℤ, pos}
-use lib.ListN.{drop}
 use Rattle.offer_rules.specs.Numbers.{eqZ, toNat, word}
 use Rattle.offer_rules.specs.Time.{slot-of}
 use Rattle.offer_rules.specs.Gate.{Window}
 use Rattle.book_rules.specs.Record.{call-of, facility-of, service-of, period-word, reason-of, word-A, word-B, capability-in, offer-in}
-use Rattle.book_rules.specs.Words.{part, put, clock-place, notice-place, limits-place, facility-place, outage-place, cell-place, standing-half, variation-half, cell, standing-stamp, variation-stamp, is-book}
+use Rattle.book_rules.specs.Words.{part, put, clock-place, notice-place, limits-place, facility-place, outage-place, cell-place, standing-half, variation-half, cell, cell-stamp, cell-offer, standing-stamp, variation-stamp, is-book}
 use Rattle.book_rules.specs.Force.{View, empty-window, outage-window, Answer, plain}
 use Rattle.book_rules.specs.Refusals.{answer, after}
 
@@ -27,7 +26,7 @@ window-in l = record { first = word l 0; last = word l 1 }
 
 -- The offer that a cell holds under a stamp.
 unfoldable pub held : ℕ → List ℤ → Option (List ℤ)
-held stamp c = cond (eqZ (word c 0) (pos stamp)) (some (drop 1 c)) none
+held stamp c = cond (eqZ (cell-stamp c) (pos stamp)) (some (cell-offer c)) none
 
 -- A cell's 24 words in a book of these sizes.
 abbrev pub cell-in : List ℤ → ℕ → ℕ → ℕ → ℕ → List ℤ

@@ -4,10 +4,10 @@ use mathlib.Core.List.{List, [], _∷_}
 use mathlib.Core.Option.{Option, none, some}
 use Prim.Native.Nat.{ℕ, zero, suc, _+_, _/_}
 use lib.IntN.{ℤ, pos, _+ℤ_}
+use Rattle.offer_rules.specs.Numbers.{zeros}
 use Rattle.offer_rules.specs.Time.{slot-of}
 use Rattle.offer_rules.specs.Offer.{Pair, pairs, sum-of}
 use Rattle.offer_rules.specs.Gate.{Window}
-use Rattle.book_rules.specs.Words.{zeros}
 
 -- What the rules read of a state, whether a book's words or a list of accepted calls; an offer is its words 1 to 23.
 pub record View : Type 0 where
@@ -51,8 +51,8 @@ pairs-of (standing-offer o) = pairs o
 pairs-of (offer-variation o) = pairs o
 
 -- "sum: its ten quantities added"
-abbrev pub quantity-of : InForce → ℤ
-quantity-of x = sum-of (pairs-of x)
+abbrev pub offered : InForce → ℤ
+offered x = sum-of (pairs-of x)
 
 unfoldable pub counted : InForce → ℕ
 counted no-offer = 0
@@ -66,7 +66,7 @@ count-in-force vw s p (suc n) = count-in-force vw s p n + counted (in-force vw n
 
 unfoldable pub sum-in-force : View → ℕ → ℕ → ℕ → ℤ
 sum-in-force vw s p zero = pos 0
-sum-in-force vw s p (suc n) = sum-in-force vw s p n +ℤ quantity-of (in-force vw n s p)
+sum-in-force vw s p (suc n) = sum-in-force vw s p n +ℤ offered (in-force vw n s p)
 
 -- "Each call returns a number, 24 words and a sum (signed 64-bit)."
 pub record Answer : Type 0 where
@@ -85,7 +85,7 @@ found-words (standing-offer o) = pos 1 ∷ o
 found-words (offer-variation o) = pos 2 ∷ o
 
 unfoldable pub found : InForce → Answer
-found x = record { number = 0; words = found-words x; sum = quantity-of x }
+found x = record { number = 0; words = found-words x; sum = offered x }
 
 -- "Total: word 0 counts facilities with an offer in force, other words zero; sum over them."
 unfoldable pub totalled : ℕ → ℤ → Answer

@@ -6,10 +6,9 @@ use mathlib.Core.Option.{Option, none, some}
 use Prim.Native.Nat.{ℕ}
 use lib.Dec.{eqb}
 use lib.IntN.{ℤ, pos}
-use Rattle.offer_rules.specs.Numbers.{eqZ, toNat}
+use Rattle.offer_rules.specs.Numbers.{eqZ, toNat, zeros}
 use Rattle.offer_rules.specs.Gate.{Window}
 use Rattle.book_rules.specs.Record.{call-of, facility-of, service-of, period-word, reason-of, word-A, word-B, capability-in, offer-in}
-use Rattle.book_rules.specs.Words.{zeros}
 use Rattle.book_rules.specs.Force.{View, Answer, empty-window, outage-window}
 use Rattle.book_rules.specs.Refusals.{answer, after}
 

@@ -92,8 +92,8 @@ outside b F S = (uses b 6 && leb F (facility-of b)) || (uses b 7 && leb S (servi
 
 -- 4 "an unused byte not zero"
 unfoldable pub any-stray : (ℕ → Bool) → ℕ → List ℕ → Bool
-any-stray used i [] = false
-any-stray used i (x ∷ l) = (not (eqb x 0) && not (used i)) || any-stray used (suc i) l
+any-stray is-used i [] = false
+any-stray is-used i (x ∷ l) = (not (eqb x 0) && not (is-used i)) || any-stray is-used (suc i) l
 
 unfoldable pub has-stray : List ℕ → Bool
 has-stray b = any-stray (used (call-of b) (service-of b)) 6 (drop 6 b)

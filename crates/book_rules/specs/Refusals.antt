@@ -8,15 +8,15 @@ use lib.Dec.{leb, eqb}
 use lib.IntN.{ℤ, pos}
 use lib.Signed.{leZ}
 use Rattle.offer_rules.specs.Numbers.{eqZ, toNat, word, beyond, any-beyond, draw, _then_}
-use Rattle.offer_rules.specs.Time.{period-refused}
-use Rattle.offer_rules.specs.Offer.{kind-of, is-generation, is-load, mark-for, pairs, standing-rules, variation-rules}
+use Rattle.offer_rules.specs.Time.{slot-refused, period-refused}
+use Rattle.offer_rules.specs.Offer.{kind-of, is-load, is-kind, mark-for, pairs, offer-number}
 use Rattle.offer_rules.specs.Gate.{Window, Grounds, gate-refuses, standing-gate-refuses}
 use Rattle.book_rules.specs.Record.{call-of, facility-of, service-of, period-word, reason-of, word-A, word-B, capability-in, offer-in, between, record-number}
 use Rattle.book_rules.specs.Force.{View, InForce, in-force, pairs-of, counted, count-in-force, sum-in-force, Answer, plain, found, totalled}
 
 -- 5 "facility has kind neither 1 nor 2 in the book (calls 3, 4, 5, 8)"
 unfoldable pub has-kind : List ℤ → Bool
-has-kind c = is-generation (kind-of c) || is-load (kind-of c)
+has-kind c = is-kind (kind-of c)
 
 unfoldable pub facility-number : List ℤ → ℕ
 facility-number c = draw (not (has-kind c)) 5
@@ -49,21 +49,28 @@ withdrawal-refused k = not (eqb k 5)
 unfoldable pub withdrawal-number : ℕ → ℕ
 withdrawal-number k = draw (withdrawal-refused k) 7
 
--- 8 "capability: kind not 1 or 2 or unlike a held 1 or 2; W1–W6 outside 0–99,999; W7, W8 outside 0–9,999; W9–W11 outside 0–1,000;
--- a mark not 0 or 1; load with mark 0 or 4 set"
+abbrev pub is-registered : List ℤ → ℕ → Bool
+is-registered c s = eqZ (mark-for c s) (pos 1)
+
+-- 8 "capability: kind not 1 or 2 or unlike a held 1 or 2"
+unfoldable pub kind-refused : List ℤ → ℤ → Bool
+kind-refused held kind = not (is-kind kind) || (has-kind held && not (eqZ (kind-of held) kind))
+
+-- "W1–W6 outside 0–99,999; W7, W8 outside 0–9,999; W9–W11 outside 0–1,000"
+unfoldable pub maxima-refused : List ℤ → Bool
+maxima-refused c = (any-beyond (pos 0) (pos 99999) c 1 6 || any-beyond (pos 0) (pos 9999) c 7 2) || any-beyond (pos 0) (pos 1000) c 9 3
+
+-- "a mark not 0 or 1; load with mark 0 or 4 set"
+unfoldable pub marks-refused : List ℤ → Bool
+marks-refused c = any-beyond (pos 0) (pos 1) c 12 5 || (is-load (kind-of c) && (is-registered c 0 || is-registered c 4))
+
 abbrev pub capability-refused : List ℤ → List ℤ → Bool
-capability-refused held c =
-    ((not (has-kind c) || (has-kind held && not (eqZ (kind-of held) (kind-of c))))
-    || ((any-beyond (pos 0) (pos 99999) c 1 6 || any-beyond (pos 0) (pos 9999) c 7 2) || any-beyond (pos 0) (pos 1000) c 9 3))
-    || (any-beyond (pos 0) (pos 1) c 12 5 || (is-load (kind-of c) && (eqZ (mark-for c 0) (pos 1) || eqZ (mark-for c 4) (pos 1))))
+capability-refused held c = (kind-refused held (kind-of c) || maxima-refused c) || marks-refused c
 
 unfoldable pub capability-number : List ℤ → List ℤ → ℕ
 capability-number held c = draw (capability-refused held c) 8
 
 -- 9 "mark for the service not 1"
-abbrev pub is-registered : List ℤ → ℕ → Bool
-is-registered c s = eqZ (mark-for c s) (pos 1)
-
 unfoldable pub registration-number : List ℤ → ℕ → ℕ
 registration-number c s = draw (not (is-registered c s)) 9
 
@@ -96,19 +103,24 @@ force-number x = draw (eqb (counted x) 0) 19
 
 -- ---- each call, from 5 on
 
+-- 5, 9 and 10 of an offer, which ask for none of its words; its slot or its period is refused or not.
+unfoldable pub admission-number : List ℤ → ℕ → Bool → ℕ
+admission-number c s refused = facility-number c then registration-number c s then draw refused 10
+
+-- 11 to 18 of a standing offer that is admitted for slot k. It carries no reason.
+unfoldable pub admitted-standing : View → ℕ → ℕ → ℕ → List ℤ → ℕ
+admitted-standing vw f s k o = offer-number (vw .limits) (vw .capability f) s 0 o then revision-number (vw .now) k (vw .standing f s k) o
+
+-- 11 to 17 of a variation that is admitted for period p.
+unfoldable pub admitted-variation : View → ℕ → ℕ → ℕ → ℕ → List ℤ → ℕ
+admitted-variation vw f s p reason o =
+    offer-number (vw .limits) (vw .capability f) s reason o then gate-number (vw .now) (grounds vw f) s p reason (in-force vw f s p) o
+
 unfoldable pub standing-number : View → ℕ → ℕ → ℤ → List ℤ → ℕ
-standing-number vw f s k o =
-    facility-number (vw .capability f)
-    then registration-number (vw .capability f) s
-    then standing-rules (vw .limits) (vw .capability f) s k o
-    then revision-number (vw .now) (toNat k) (vw .standing f s (toNat k)) o
+standing-number vw f s k o = admission-number (vw .capability f) s (slot-refused k) then admitted-standing vw f s (toNat k) o
 
 unfoldable pub variation-number : View → ℕ → ℕ → ℤ → ℕ → List ℤ → ℕ
-variation-number vw f s p reason o =
-    facility-number (vw .capability f)
-    then registration-number (vw .capability f) s
-    then variation-rules (vw .now) (vw .limits) (vw .capability f) s p reason o
-    then gate-number (vw .now) (grounds vw f) s (toNat p) reason (in-force vw f s (toNat p)) o
+variation-number vw f s p reason o = admission-number (vw .capability f) s (period-refused (vw .now) p) then admitted-variation vw f s (toNat p) reason o
 
 unfoldable pub look-up-number : View → ℕ → ℕ → ℤ → ℕ
 look-up-number vw f s p =

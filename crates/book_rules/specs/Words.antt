@@ -5,8 +5,9 @@ use Prim.Native.Nat.{ℕ, zero, suc, _+_, _*_, _-_}
 use lib.Dec.{leb, eqb}
 use lib.IntN.{ℤ, pos, negsuc}
 use lib.Signed.{leZ}
-use lib.ListN.{length, take, drop, replicate}
-use Rattle.offer_rules.specs.Numbers.{eqZ, toNat, word, beyond, any-beyond, draw}
+use lib.ListN.{length, take, drop}
+use Rattle.offer_rules.specs.Numbers.{eqZ, toNat, word, zeros, beyond, any-beyond, draw}
+use Rattle.offer_rules.specs.Time.{slots}
 use Rattle.book_rules.specs.Record.{sizes-ok}
 
 -- n words from a on.
@@ -16,9 +17,6 @@ part a n w = take n (drop a w)
 -- The words w, with c in the place of as many from a on.
 unfoldable pub put : List ℤ → ℕ → List ℤ → List ℤ
 put w a c = take a w ++ (c ++ drop (a + length c) w)
-
-abbrev pub zeros : ℕ → List ℤ
-zeros n = replicate n (pos 0)
 
 -- "It needs N = 64 + 32·F + 16,128·F·S words."
 unfoldable pub book-size : ℕ → ℕ → ℕ
@@ -50,7 +48,7 @@ outage-place f = facility-place f + 17
 
 -- "Then cells of 24 words, numbered ((f·S + s)·2 + h)·336 + slot, h 0 standing, 1 variation"
 unfoldable pub cell-place : ℕ → ℕ → ℕ → ℕ → ℕ → ℕ → ℕ
-cell-place F S f s h slot = 64 + 32 * F + 24 * (((f * S + s) * 2 + h) * 336 + slot)
+cell-place F S f s h slot = facility-place F + 24 * (((f * S + s) * 2 + h) * slots + slot)
 
 abbrev pub standing-half : ℕ
 standing-half = 0
@@ -58,9 +56,16 @@ standing-half = 0
 abbrev pub variation-half : ℕ
 variation-half = 1
 
--- A cell: "0 stamp (0 empty, 1 standing, P + 1 variation), 1 proportion, 2 ramp up, 3 ramp down, 4–23 pairs".
+-- A cell: "0 stamp (0 empty, 1 standing, P + 1 variation), 1 proportion, 2 ramp up, 3 ramp down, 4–23 pairs":
+-- a stamp and an offer as a cell's words, and the stamp and the offer of a cell's words.
 unfoldable pub cell : ℕ → List ℤ → List ℤ
 cell stamp o = pos stamp ∷ o
+
+abbrev pub cell-stamp : List ℤ → ℤ
+cell-stamp c = word c 0
+
+abbrev pub cell-offer : List ℤ → List ℤ
+cell-offer c = drop 1 c
 
 abbrev pub standing-stamp : ℕ
 standing-stamp = 1
@@ -98,7 +103,7 @@ opening-head F S limits =
 
 -- "Opening writes words 0 to N − 1: mark, version, F and S as above, clock 0, all windows 1 to 0 (empty), given limits, else zero."
 unfoldable pub opened : ℕ → ℕ → List ℤ → List ℤ → List ℤ
-opened F S limits beyond = opening-head F S limits ++ (empty-facilities F ++ (zeros (16128 * (F * S)) ++ beyond))
+opened F S limits past = opening-head F S limits ++ (empty-facilities F ++ (zeros (16128 * (F * S)) ++ past))
 
 -- The words afterwards: those from N on stay, and a refused opening writes none.
 unfoldable pub opening-words : List ℤ → ℤ → ℤ → List ℤ → List ℤ

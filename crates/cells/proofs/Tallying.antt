@@ -8,7 +8,7 @@ use lib.IntN.{ℤ, _+ℤ_, natAbs}
 use mir.Syntax.{w64}
 use mir.Val.{ofZ, toZ, SFits}
 use mir.Facts.{toZ-ofZ}
-use Rattle.book_rules.specs.Force.{View, in-force, counted, quantity-of, count-in-force, sum-in-force}
+use Rattle.book_rules.specs.Force.{View, in-force, counted, offered, count-in-force, sum-in-force}
 use Rattle.book_rules.specs.Book.{facilities-in, book-view}
 use Rattle.units.proofs.Adding.{abs-add, abs-fits}
 
@@ -16,7 +16,7 @@ pub count-more : (vw : View) (s p n : ℕ) → count-in-force vw s p (n + 1) ≡
 unfolding count-in-force
 count-more vw s p n = rw add-one
 
-pub sum-more : (vw : View) (s p n : ℕ) → sum-in-force vw s p (n + 1) ≡ sum-in-force vw s p n +ℤ quantity-of (in-force vw n s p)
+pub sum-more : (vw : View) (s p n : ℕ) → sum-in-force vw s p (n + 1) ≡ sum-in-force vw s p n +ℤ offered (in-force vw n s p)
 unfolding sum-in-force
 sum-more vw s p n = rw add-one
 

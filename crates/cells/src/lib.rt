@@ -8,7 +8,7 @@ ghost use lib.IntN.{pos, natAbs, _+ℤ_};
 ghost use lib.ListN.{length};
 ghost use Rattle.offer_rules.specs.Numbers.{eqZ, word};
 ghost use Rattle.book_rules.specs.Words.{put, book-size, cell-place, cell};
-ghost use Rattle.book_rules.specs.Force.{first-of, in-force, counted, quantity-of, plain, found};
+ghost use Rattle.book_rules.specs.Force.{first-of, in-force, counted, offered, plain, found};
 ghost use Rattle.book_rules.specs.Refusals.{total-reply};
 ghost use Rattle.book_rules.specs.Book.{book-view};
 ghost use Rattle.cells.specs.Meaning.{Sized, meaning, end-of, answer-of, found-at, total-quantity};
@@ -225,7 +225,7 @@ struct Tally {
 // One facility's.
 fn tally_of(book: &[i32], offer: InForce) -> Tally
     requires { ⌜ end-of offer ≤ length (now book) ⌝ }
-    ensures { λ r. ⌜ (r .count ≡ counted (meaning (now (book .entry)) offer)) × (r .sum ≡ quantity-of (meaning (now (book .entry)) offer)) × (r .count ≤ 1) × (natAbs (r .sum) ≤ 21474836480) ⌝ }
+    ensures { λ r. ⌜ (r .count ≡ counted (meaning (now (book .entry)) offer)) × (r .sum ≡ offered (meaning (now (book .entry)) offer)) × (r .count ≤ 1) × (natAbs (r .sum) ≤ 21474836480) ⌝ }
 {
     match offer {
         InForce::Nothing => Tally { count: 0, sum: 0 },

@@ -2,4 +2,3 @@
 pub mod Words
 pub mod Runs
 pub mod Steps
-pub mod Cases

@@ -5,7 +5,7 @@ use Prim.Native.Nat.{ℕ, zero, suc}
 use lib.Dec.{eqb}
 use lib.IntN.{ℤ, pos, negsuc}
 use lib.Signed.{ltZ}
-use lib.ListN.{getD}
+use lib.ListN.{getD, replicate}
 
 abbrev pub eqZ : ℤ → ℤ → Bool
 eqZ (pos m) (pos n) = eqb m n
@@ -21,6 +21,9 @@ toNat (negsuc n) = 0
 -- Word i of some words.
 abbrev pub word : List ℤ → ℕ → ℤ
 word l i = getD l i (pos 0)
+
+abbrev pub zeros : ℕ → List ℤ
+zeros n = replicate n (pos 0)
 
 -- Outside lo to hi.
 abbrev pub beyond : ℤ → ℤ → ℤ → Bool

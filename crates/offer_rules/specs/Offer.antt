@@ -7,7 +7,6 @@ use lib.IntN.{ℤ, pos, _+ℤ_}
 use lib.Signed.{ltZ}
 use lib.ListN.{drop}
 use Rattle.offer_rules.specs.Numbers.{eqZ, word, beyond, draw, _then_}
-use Rattle.offer_rules.specs.Time.{slot-refused, period-refused}
 
 -- A pair of an offer: its price in cents per MWh, its quantity in tenths of a MW.
 pub record Pair : Type 0 where
@@ -57,6 +56,9 @@ is-generation kind = eqZ kind generation
 
 abbrev pub is-load : ℤ → Bool
 is-load kind = eqZ kind load
+
+abbrev pub is-kind : ℤ → Bool
+is-kind kind = is-generation kind || is-load kind
 
 abbrev pub is-energy : ℕ → Bool
 is-energy s = eqb s 0
@@ -145,10 +147,3 @@ offer-number limits c s reason o =
     then draw (ramp-refused c s o) 14
     then draw (proportion-refused c s o) 15
     then draw (above-capacity c s (sum-of (pairs o))) 16
-
--- 10 to 16, of a standing offer, which carries no reason, and of a variation
-unfoldable pub standing-rules : List ℤ → List ℤ → ℕ → ℤ → List ℤ → ℕ
-standing-rules limits c s slot o = draw (slot-refused slot) 10 then offer-number limits c s 0 o
-
-unfoldable pub variation-rules : ℕ → List ℤ → List ℤ → ℕ → ℤ → ℕ → List ℤ → ℕ
-variation-rules now limits c s p reason o = draw (period-refused now p) 10 then offer-number limits c s reason o

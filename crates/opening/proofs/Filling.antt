@@ -8,7 +8,8 @@ use native.Mathlib.Numerals.{add-one}
 use lib.IntN.{ℤ, pos}
 use lib.ListN.{length, drop, getD, set, length-append, length-replicate, drop-of-length-le}
 use lib.Seq.{drop-cons, set-at, append-snoc}
-use Rattle.book_rules.specs.Words.{zeros, empty-facility, empty-facilities, opening-head}
+use Rattle.offer_rules.specs.Numbers.{zeros}
+use Rattle.book_rules.specs.Words.{empty-facility, empty-facilities, opening-head}
 
 zeros-snoc : (n : ℕ) → zeros (suc n) ≡ zeros n ++ (pos 0 ∷ [])
 zeros-snoc zero = refl

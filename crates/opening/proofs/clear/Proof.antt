@@ -4,7 +4,7 @@ use Prim.Native.Nat.{_-_, _≤_}
 use native.Mathlib.Omega.{arith}
 use lib.ListN.{length, drop, length-set}
 use borrow.Author.Needs.{needs}
-use Rattle.book_rules.specs.Words.{zeros}
+use Rattle.offer_rules.specs.Numbers.{zeros}
 use Rattle.opening.proofs.Filling.{clear-more, filled-all}
 use Rattle.opening.proofs.clear.Statement.{statement}
 use Rattle.opening.proofs.clear.Tie as tie

@@ -8,7 +8,8 @@ use mir.Syntax.{w32}
 use mir.ValLaws.{toZ-pos}
 use borrow.Rule.Slice.PartMut.{midOf, putMid}
 use borrow.Author.Needs.{needs}
-use Rattle.book_rules.specs.Words.{book-mark, book-version, zeros, opening-head}
+use Rattle.offer_rules.specs.Numbers.{zeros}
+use Rattle.book_rules.specs.Words.{book-mark, book-version, opening-head}
 use Rattle.opening.proofs.Filling.{zeros-by-length}
 use Rattle.opening.proofs.LentParts.{lent-three}
 use Rattle.opening.proofs.write_head.Statement.{statement}

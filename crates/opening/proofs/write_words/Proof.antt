@@ -5,7 +5,8 @@ use lib.IntN.{pos}
 use lib.ListN.{length, length-replicate}
 use borrow.Rule.Slice.PartMut.{midOf, putMid}
 use borrow.Author.Needs.{needs}
-use Rattle.book_rules.specs.Words.{zeros, book-size, empty-facilities, opening-head, opened}
+use Rattle.offer_rules.specs.Numbers.{zeros}
+use Rattle.book_rules.specs.Words.{book-size, empty-facilities, opening-head, opened}
 use Rattle.opening.proofs.Filling.{zeros-by-length, length-facilities, length-head}
 use Rattle.opening.proofs.LentParts.{lent-three}
 use Rattle.opening.proofs.write_words.Statement.{statement}
