@@ -5,8 +5,10 @@ pub const DAY_MINUTES: u64 = 1440;
 
 pub const DAY_PERIODS: u64 = 48;
 
-// A week of periods. As a width of the cells it is a count of words' places, in time a count of periods.
-pub const SLOTS: usize = 336;
+// "The slot of P is P mod 336."
+pub const SLOTS: u64 = 336;
+
+pub const LAST_SLOT: i32 = SLOTS as i32 - 1;
 
 // "P ≥ 48·(d + 7)"
 pub const HORIZON_DAYS: u64 = 7;

@@ -12,7 +12,7 @@ use Rattle.offer_rules.proofs.Drawn.{or-right}
 use Rattle.units.specs.Typed.{price-of}
 use Rattle.offers.specs.declared.pairs.Findings.{Findings}
 use Rattle.offers.specs.PairTests.{found-in}
-use Rattle.offers.proofs.Walks.{found-outside-is, found-are}
+use Rattle.offers.proofs.Walks.{found-out-of-range-is, found-are}
 
 abbrev six-picked : Bool → Bool → Bool → Bool → Bool → Bool → ℕ
 six-picked a b c d e f = cond a 11 (cond b 12 (cond c 13 (cond d 14 (cond e 15 (cond f 16 0)))))
@@ -40,17 +40,17 @@ five-picked b c d e f = cond b 12 (cond c 13 (cond d 14 (cond e 15 (cond f 16 0)
 
 module _ (limits c : List ℤ) (s reason : ℕ) (o : List ℤ) (f : Findings)
     (is-found : f ≡ found-in (price-of (lowest-price limits s)) (price-of (highest-price limits s)) (pairs o)) where
-  range-found : (ltb 6 reason || f .outside) ≡ out-of-range limits s reason o
+  range-found : (ltb 6 reason || f .«out_of_range») ≡ out-of-range limits s reason o
   unfolding out-of-range
-  range-found = ap (λ (t : Bool). ltb 6 reason || t) (ap (λ (g : Findings). g .outside) is-found ∙ found-outside-is limits s (pairs o))
+  range-found = ap (λ (t : Bool). ltb 6 reason || t) (ap (λ (g : Findings). g .«out_of_range») is-found ∙ found-out-of-range-is limits s (pairs o))
 
-  pub eleven-found : (ltb 6 reason || f .outside) ≡ true → offer-number limits c s reason o ≡ 11
+  pub eleven-found : (ltb 6 reason || f .«out_of_range») ≡ true → offer-number limits c s reason o ≡ 11
   eleven-found h = number-picked limits c s reason o ∙ rw (← range-found, h)
 
-  pub number-found : (ltb 6 reason || f .outside) ≡ false
+  pub number-found : (ltb 6 reason || f .«out_of_range») ≡ false
       → offer-number limits c s reason o ≡ five-picked (f .priced) (not (f .rises)) (ramp-refused c s o) (proportion-refused c s o) (above-capacity c s (f .total .0))
   number-found h =
-      let k = found-are limits s (pairs o) (ap (λ (g : Findings). g .outside) (sym is-found) ∙ or-right (ltb 6 reason) (f .outside) h) in
+      let k = found-are limits s (pairs o) (ap (λ (g : Findings). g .«out_of_range») (sym is-found) ∙ or-right (ltb 6 reason) (f .«out_of_range») h) in
       number-picked limits c s reason o
       ∙ rw (
         ← range-found,

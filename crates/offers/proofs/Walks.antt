@@ -18,7 +18,7 @@ use Rattle.units.specs.declared.Price.{Price}
 use Rattle.units.specs.declared.Quantity.{Quantity}
 use Rattle.units.proofs.Adding.{abs-add}
 use Rattle.offers.specs.declared.pairs.Findings.{Findings}
-use Rattle.offers.specs.PairTests.{blank, outside, still-rises, with-blank, with-filled, with-pair, none-yet, refused, found-from, found-in, do-five-suffice}
+use Rattle.offers.specs.PairTests.{blank, is-out-of-range, still-rises, with-blank, with-filled, with-pair, none-yet, refused, found-from, found-in, do-five-suffice}
 
 -- ---- the walk, turn by turn
 
@@ -26,19 +26,19 @@ found-turn : (lowest highest : Price) (f : Findings) (ws : List ℤ) (i : ℕ) �
     → let p = price-of (pair-at ws i .price) in
     let q = quantity-of (pair-at ws i .quantity) in
     found-from lowest highest f (pairs-in (drop (2 * i) ws))
-    ≡ cond (outside lowest highest p q) refused (found-from lowest highest (with-pair f p q) (pairs-in (drop (2 * (i + 1)) ws)))
+    ≡ cond (is-out-of-range lowest highest p q) refused (found-from lowest highest (with-pair f p q) (pairs-in (drop (2 * (i + 1)) ws)))
 unfolding found-from
 found-turn lowest highest f ws i h = ap (found-from lowest highest f) (pairs-from ws i h)
 
 module _ (lowest highest : Price) (f : Findings) (ws : List ℤ) (i : ℕ) (p : Price) (q : Quantity) (h : 2 * i + 1 < length ws)
     (ep : p ≡ price-of (pair-at ws i .price)) (eq : q ≡ quantity-of (pair-at ws i .quantity)) where
-  turn-of : found-from lowest highest f (pairs-in (drop (2 * i) ws)) ≡ cond (outside lowest highest p q) refused (found-from lowest highest (with-pair f p q) (pairs-in (drop (2 * (i + 1)) ws)))
+  turn-of : found-from lowest highest f (pairs-in (drop (2 * i) ws)) ≡ cond (is-out-of-range lowest highest p q) refused (found-from lowest highest (with-pair f p q) (pairs-in (drop (2 * (i + 1)) ws)))
   turn-of = rw (ep, eq) (found-turn lowest highest f ws i h)
 
-  pub found-ends : outside lowest highest p q ≡ true → found-from lowest highest f (pairs-in (drop (2 * i) ws)) ≡ refused
+  pub found-ends : is-out-of-range lowest highest p q ≡ true → found-from lowest highest f (pairs-in (drop (2 * i) ws)) ≡ refused
   found-ends o = turn-of ∙ ap (λ (t : Bool). cond t refused (found-from lowest highest (with-pair f p q) (pairs-in (drop (2 * (i + 1)) ws)))) o
 
-  pub found-goes-on : outside lowest highest p q ≡ false → found-from lowest highest f (pairs-in (drop (2 * i) ws)) ≡ found-from lowest highest (with-pair f p q) (pairs-in (drop (2 * (i + 1)) ws))
+  pub found-goes-on : is-out-of-range lowest highest p q ≡ false → found-from lowest highest f (pairs-in (drop (2 * i) ws)) ≡ found-from lowest highest (with-pair f p q) (pairs-in (drop (2 * (i + 1)) ws))
   found-goes-on o = turn-of ∙ ap (λ (t : Bool). cond t refused (found-from lowest highest (with-pair f p q) (pairs-in (drop (2 * (i + 1)) ws)))) o
 
 pub found-whole : (lowest highest : Price) (f : Findings) (ws : List ℤ) (n : ℕ) → length ws ≤ n → found-from lowest highest f (pairs-in (drop n ws)) ≡ f
@@ -48,27 +48,27 @@ found-whole lowest highest f ws n h = ap (found-from lowest highest f) (no-pairs
 -- ---- 11: some pair
 
 -- a pair more leaves this flag
-pub outside-kept : (f : Findings) (p : Price) (q : Quantity) (b : Bool) → cond b (with-blank f p) (with-filled f p q) .outside ≡ f .outside
+pub out-of-range-kept : (f : Findings) (p : Price) (q : Quantity) (b : Bool) → cond b (with-blank f p) (with-filled f p q) .«out_of_range» ≡ f .«out_of_range»
 unfolding with-blank with-filled
-outside-kept f p q true = refl
-outside-kept f p q false = refl
+out-of-range-kept f p q true = refl
+out-of-range-kept f p q false = refl
 
-found-outside : (limits : List ℤ) (s : ℕ) (f : Findings) (l : List Pair) → f .outside ≡ false
-    → found-from (price-of (lowest-price limits s)) (price-of (highest-price limits s)) f l .outside ≡ any-pair (pair-out-of-range limits s) l
+found-out-of-range : (limits : List ℤ) (s : ℕ) (f : Findings) (l : List Pair) → f .«out_of_range» ≡ false
+    → found-from (price-of (lowest-price limits s)) (price-of (highest-price limits s)) f l .«out_of_range» ≡ any-pair (pair-out-of-range limits s) l
 unfolding found-from any-pair pair-out-of-range
-found-outside limits s f [] h = h
-found-outside limits s f (x ∷ l) h =
+found-out-of-range limits s f [] h = h
+found-out-of-range limits s f (x ∷ l) h =
     let p = price-of (x .price) in
     let q = quantity-of (x .quantity) in
     go (pair-out-of-range limits s x)
     (found-from (price-of (lowest-price limits s)) (price-of (highest-price limits s)) (with-pair f p q) l)
-    (found-outside limits s (with-pair f p q) l (outside-kept f p q (blank q) ∙ h))
+    (found-out-of-range limits s (with-pair f p q) l (out-of-range-kept f p q (blank q) ∙ h))
   where
-    go : (t : Bool) (g : Findings) → g .outside ≡ any-pair (pair-out-of-range limits s) l → cond t refused g .outside ≡ (t || any-pair (pair-out-of-range limits s) l)
+    go : (t : Bool) (g : Findings) → g .«out_of_range» ≡ any-pair (pair-out-of-range limits s) l → cond t refused g .«out_of_range» ≡ (t || any-pair (pair-out-of-range limits s) l)
     go true g e = refl
     go false g e = e
 
--- ---- where no pair is outside, the walk goes to the end
+-- ---- where no pair is out of range, the walk goes to the end
 
 abbrev walked : Findings → List Pair → Findings
 walked f [] = f
@@ -162,14 +162,14 @@ total-grows f p q false = abs-add (f .total .0) (q .0)
 
 -- ---- all, of the pairs of an offer
 
-pub found-outside-is : (limits : List ℤ) (s : ℕ) (l : List Pair)
-    → found-in (price-of (lowest-price limits s)) (price-of (highest-price limits s)) l .outside ≡ any-pair (pair-out-of-range limits s) l
-found-outside-is limits s l = found-outside limits s none-yet l refl
+pub found-out-of-range-is : (limits : List ℤ) (s : ℕ) (l : List Pair)
+    → found-in (price-of (lowest-price limits s)) (price-of (highest-price limits s)) l .«out_of_range» ≡ any-pair (pair-out-of-range limits s) l
+found-out-of-range-is limits s l = found-out-of-range limits s none-yet l refl
 
 pub found-are : (limits : List ℤ) (s : ℕ) (l : List Pair) → let f = found-in (price-of (lowest-price limits s)) (price-of (highest-price limits s)) l in
-    f .outside ≡ false → (f .priced ≡ any-pair is-priced-blank l) × (f .rises ≡ rises (non-blank-prices l)) × (f .total .0 ≡ sum-of l)
+    f .«out_of_range» ≡ false → (f .priced ≡ any-pair is-priced-blank l) × (f .rises ≡ rises (non-blank-prices l)) × (f .total .0 ≡ sum-of l)
 found-are limits s l h =
-    let e = found-walked limits s none-yet l (sym (found-outside-is limits s l) ∙ h) in (
+    let e = found-walked limits s none-yet l (sym (found-out-of-range-is limits s l) ∙ h) in (
       ap (λ (f : Findings). f .priced) e ∙ walked-priced none-yet l,
       ap (λ (f : Findings). f .rises) e ∙ walked-rises none-yet l,
       ap (λ (f : Findings). f .total .0) e ∙ walked-total none-yet l ∙ +ℤ-idl (sum-of l),
@@ -180,7 +180,7 @@ found-are limits s l h =
 with-empty : (f : Findings) → with-pair f (price-of (pos 0)) (quantity-of (pos 0)) ≡ f
 unfolding with-blank
 with-empty f =
-    ap (λ (t : Bool). record { outside = f .outside; priced = t; rises = f .rises; any = f .any; last = f .last; total = f .total })
+    ap (λ (t : Bool). record { «out_of_range» = f .«out_of_range»; priced = t; rises = f .rises; any = f .any; last = f .last; total = f .total })
     (or-false (f .priced))
 
 -- a word that is not outside 0 to 0
@@ -201,7 +201,7 @@ two-zero ws i n h =
     let k = or-right x (y || later) h in
     (word-zero (getD ws i (pos 0)) (or-left x (y || later) h), word-zero (getD ws (suc i) (pos 0)) (or-left y later k), or-right y later k)
 
-module _ (lowest highest : Price) (f : Findings) (ws : List ℤ) (not-out : outside lowest highest (price-of (pos 0)) (quantity-of (pos 0)) ≡ false) where
+module _ (lowest highest : Price) (f : Findings) (ws : List ℤ) (not-out : is-out-of-range lowest highest (price-of (pos 0)) (quantity-of (pos 0)) ≡ false) where
   -- the last k pairs, from the i-th on
   empty-change-nothing : (k i : ℕ) → length ws ≡ 2 * (i + k) → any-beyond (pos 0) (pos 0) ws (2 * i) (2 * k) ≡ false → found-from lowest highest f (pairs-in (drop (2 * i) ws)) ≡ f
   empty-change-nothing zero i h z = found-whole lowest highest f ws (2 * i) (omega arith)
@@ -219,7 +219,7 @@ pub found-in-five : (lowest highest : Price) (f : Findings) (ws : List ℤ)
     → length ws ≡ 20 → do-five-suffice lowest highest ws ≡ true → found-from lowest highest f (pairs-in (drop 10 ws)) ≡ f
 unfolding do-five-suffice
 found-in-five lowest highest f ws h z =
-    let out = outside lowest highest (price-of (pos 0)) (quantity-of (pos 0)) in
+    let out = is-out-of-range lowest highest (price-of (pos 0)) (quantity-of (pos 0)) in
     let any = any-beyond (pos 0) (pos 0) ws 10 10 in
     empty-change-nothing lowest highest f ws (not-true out (and-left (not out) (not any) z)) 5 5 h (not-true any (and-right (not out) (not any) z))
 
@@ -230,10 +230,10 @@ module _ (lowest highest : Price) (ws : List ℤ) (h : length ws ≡ 20) where
   abbrev after : Findings → Findings
   after r = found-from lowest highest r (pairs-in (drop 10 ws))
 
-  pub ends-at-five : (r : Findings) (short : Bool) → (short ≡ true → do-five-suffice lowest highest ws ≡ true) → (r .outside || short) ≡ true → cond (r .outside) r (after r) ≡ r
-  ends-at-five r short five e = go (r .outside) refl
+  pub ends-at-five : (r : Findings) (short : Bool) → (short ≡ true → do-five-suffice lowest highest ws ≡ true) → (r .«out_of_range» || short) ≡ true → cond (r .«out_of_range») r (after r) ≡ r
+  ends-at-five r short five e = go (r .«out_of_range») refl
     where
-      go : (t : Bool) → r .outside ≡ t → cond t r (after r) ≡ r
+      go : (t : Bool) → r .«out_of_range» ≡ t → cond t r (after r) ≡ r
       go true k = refl
       go false k = found-in-five lowest highest r ws h (five (rw k at e))
 

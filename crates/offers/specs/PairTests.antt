@@ -14,8 +14,8 @@ use Rattle.offers.specs.declared.pairs.Findings.{Findings}
 abbrev pub blank : Quantity → Bool
 blank q = eqZ (q .0) (pos 0)
 
-abbrev pub outside : Price → Price → Price → Quantity → Bool
-outside lowest highest p q = beyond (pos 0) (pos 99999) (q .0) || beyond (lowest .0) (highest .0) (p .0)
+abbrev pub is-out-of-range : Price → Price → Price → Quantity → Bool
+is-out-of-range lowest highest p q = beyond (pos 0) (pos 99999) (q .0) || beyond (lowest .0) (highest .0) (p .0)
 
 -- Whether the prices still rise at a pair that isn't blank: the first is held against none.
 unfoldable pub still-rises : Bool → Bool → Price → Price → Bool
@@ -24,7 +24,7 @@ still-rises r any last p = r && (not any || ltZ (last .0) (p .0))
 -- One pair more: a blank one, whose price isn't held against the last, or another.
 unfoldable pub with-blank : Findings → Price → Findings
 with-blank f p = record {
-  outside = f .outside;
+  «out_of_range» = f .«out_of_range»;
   priced = f .priced || not (eqZ (p .0) (pos 0));
   rises = f .rises;
   any = f .any;
@@ -34,7 +34,7 @@ with-blank f p = record {
 
 unfoldable pub with-filled : Findings → Price → Quantity → Findings
 with-filled f p q = record {
-  outside = f .outside;
+  «out_of_range» = f .«out_of_range»;
   priced = f .priced;
   rises = still-rises (f .rises) (f .any) (f .last) p;
   any = true;
@@ -47,15 +47,15 @@ with-pair f p q = cond (blank q) (with-blank f p) (with-filled f p q)
 
 -- Before the first pair, and at one that 11 refuses, where the walk ends.
 abbrev pub none-yet : Findings
-none-yet = record { outside = false; priced = false; rises = true; any = false; last = price-of (pos 0); total = record { 0 = pos 0 } }
+none-yet = record { «out_of_range» = false; priced = false; rises = true; any = false; last = price-of (pos 0); total = record { 0 = pos 0 } }
 
 abbrev pub refused : Findings
-refused = record { outside = true; priced = false; rises = true; any = false; last = price-of (pos 0); total = record { 0 = pos 0 } }
+refused = record { «out_of_range» = true; priced = false; rises = true; any = false; last = price-of (pos 0); total = record { 0 = pos 0 } }
 
 unfoldable pub found-from : Price → Price → Findings → List Pair → Findings
 found-from lowest highest f [] = f
 found-from lowest highest f (x ∷ l) =
-    cond (outside lowest highest (price-of (x .price)) (quantity-of (x .quantity))) refused
+    cond (is-out-of-range lowest highest (price-of (x .price)) (quantity-of (x .quantity))) refused
     (found-from lowest highest (with-pair f (price-of (x .price)) (quantity-of (x .quantity))) l)
 
 abbrev pub found-in : Price → Price → List Pair → Findings
@@ -63,4 +63,4 @@ found-in lowest highest l = found-from lowest highest none-yet l
 
 -- Words 10 to 19, the last five of ten pairs, are all 0, and 11 doesn't refuse such a pair: then they change nothing.
 unfoldable pub do-five-suffice : Price → Price → List ℤ → Bool
-do-five-suffice lowest highest ws = not (outside lowest highest (price-of (pos 0)) (quantity-of (pos 0))) && not (any-beyond (pos 0) (pos 0) ws 10 10)
+do-five-suffice lowest highest ws = not (is-out-of-range lowest highest (price-of (pos 0)) (quantity-of (pos 0))) && not (any-beyond (pos 0) (pos 0) ws 10 10)

@@ -1,5 +1,4 @@
 // An offer against its facility's capability: refusals 14 to 16.
-// The ramps and the proportion are an offer's words 1, 2 and 0.
 ghost use mathlib.Core.Path.{_≡_};
 ghost use mathlib.Core.Bool.{_||_};
 ghost use Prim.Native.Nat.{_≤_, _<_};
@@ -10,25 +9,12 @@ ghost use Rattle.offer_rules.specs.Numbers.{eqZ, word, beyond};
 ghost use Rattle.offer_rules.specs.Offer.{is-generation, ramp-refused, proportion-refused, above-capacity};
 ghost use Rattle.offers.specs.Typed.{ramp-of, proportion-of};
 use crate::pairs::Sum;
+use layout::facility;
+use layout::offer;
 use units::Quantity;
 use units::is_beyond;
 use units::is_zero;
 use units::quantity_at;
-
-// A capability's words. From MAX_OF_SERVICE and MAX_PROPORTION on, the word of service s is s words further.
-const KIND: usize = 0;
-
-const MAX_GENERATION: usize = 1;
-
-const MAX_COMBINED: usize = 2;
-
-const MAX_OF_SERVICE: usize = 2;
-
-const MAX_RAMP_UP: usize = 7;
-
-const MAX_RAMP_DOWN: usize = 8;
-
-const MAX_PROPORTION: usize = 8;
 
 // ---- 14: ramps
 
@@ -53,9 +39,9 @@ pub fn is_ramp_refused(capability: &[i32], service: u8, offer: &[i32]) -> bool
     requires { ⌜ (length (now capability) ≡ 17) × (length (now offer) ≡ 23) ⌝ }
     ensures { λ r. ⌜ r ≡ ramp-refused (now (capability .entry)) service (now (offer .entry)) ⌝ }
 {
-    let up = is_ramp_beyond(ramp_at(capability, MAX_RAMP_UP), ramp_at(offer, 1));
-    let down = is_ramp_beyond(ramp_at(capability, MAX_RAMP_DOWN), ramp_at(offer, 2));
-    (service == 0) & (up | down)
+    let up = is_ramp_beyond(ramp_at(capability, facility::MAX_RAMP_UP), ramp_at(offer, offer::RAMP_UP));
+    let down = is_ramp_beyond(ramp_at(capability, facility::MAX_RAMP_DOWN), ramp_at(offer, offer::RAMP_DOWN));
+    (service == facility::ENERGY) & (up | down)
 }
 
 // ---- 15: the proportion of generation reserve
@@ -79,7 +65,7 @@ fn is_none_or_above(maximum: Proportion, proportion: Proportion) -> bool
 fn is_generation(kind: i32) -> bool
     ensures { λ r. ⌜ r ≡ is-generation kind ⌝ }
 {
-    kind == 1
+    kind == facility::GENERATION
 }
 
 // "generation reserve: proportion 0 or above its maximum; load isn't tested"
@@ -87,9 +73,9 @@ pub fn is_proportion_refused(capability: &[i32], service: u8, offer: &[i32]) -> 
     requires { ⌜ (length (now capability) ≡ 17) × (service ≤ 4) × (length (now offer) ≡ 23) ⌝ }
     ensures { λ r. ⌜ r ≡ proportion-refused (now (capability .entry)) service (now (offer .entry)) ⌝ }
 {
-    let maximum = proportion_at(capability, MAX_PROPORTION + service as usize);
-    let is_tested = is_generation(capability[KIND]) & ((1 <= service) & (service <= 3));
-    is_tested & is_none_or_above(maximum, proportion_at(offer, 0))
+    let maximum = proportion_at(capability, facility::MAX_PROPORTION + service as usize);
+    let is_tested = is_generation(capability[facility::KIND]) & ((facility::PRIMARY_RESERVE <= service) & (service <= facility::CONTINGENCY_RESERVE));
+    is_tested & is_none_or_above(maximum, proportion_at(offer, offer::PROPORTION))
 }
 
 // ---- 16: the total
@@ -105,13 +91,13 @@ pub fn is_above_capacity(capability: &[i32], service: u8, total: Sum) -> bool
     requires { ⌜ (length (now capability) ≡ 17) × (service ≤ 4) ⌝ }
     ensures { λ r. ⌜ r ≡ above-capacity (now (capability .entry)) service (total .0) ⌝ }
 {
-    if service == 0 {
-        let generation = is_total_above(quantity_at(capability, MAX_GENERATION), total);
-        let combined = is_total_above(quantity_at(capability, MAX_COMBINED), total);
+    if service == facility::ENERGY {
+        let generation = is_total_above(quantity_at(capability, facility::MAX_GENERATION), total);
+        let combined = is_total_above(quantity_at(capability, facility::MAX_COMBINED), total);
         return generation | combined;
     }
     is_total_above(
-        quantity_at(capability, MAX_OF_SERVICE + service as usize),
+        quantity_at(capability, facility::MAX_OF_SERVICE + service as usize),
         total,
     )
 }

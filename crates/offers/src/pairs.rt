@@ -8,7 +8,9 @@ ghost use lib.ListN.{length, drop};
 ghost use Rattle.offer_rules.specs.Numbers.{any-beyond};
 ghost use Rattle.offer_rules.specs.Offer.{pairs-in, pairs, sum-of, lowest-price, highest-price};
 ghost use Rattle.units.specs.Typed.{price-of};
-ghost use Rattle.offers.specs.PairTests.{blank, outside, still-rises, with-blank, with-filled, with-pair, found-from, found-in, do-five-suffice};
+ghost use Rattle.offers.specs.PairTests.{blank, is-out-of-range, still-rises, with-blank, with-filled, with-pair, found-from, found-in, do-five-suffice};
+use layout::facility;
+use layout::offer;
 use units::Price;
 use units::Quantity;
 use units::any_beyond;
@@ -34,7 +36,7 @@ fn total_of(pairs: &[i32]) -> Sum
     ensures { λ r. ⌜ (r .0 ≡ sum-of (pairs-in (now (pairs .entry)))) × (natAbs (r .0) ≤ 21474836480) ⌝ }
 {
     let mut total = Sum(0);
-    for i in 0..10usize {
+    for i in 0..offer::PAIR_COUNT {
         total = plus(total, quantity_at(pairs, 2 * i + 1));
     }
     total
@@ -57,7 +59,7 @@ pub fn is_blank(quantity: Quantity) -> bool
 
 // 11 "quantity outside 0–99,999, price outside its limits"
 pub fn is_out_of_range(lowest: Price, highest: Price, price: Price, quantity: Quantity) -> bool
-    ensures { λ r. ⌜ r ≡ outside lowest highest price quantity ⌝ }
+    ensures { λ r. ⌜ r ≡ is-out-of-range lowest highest price quantity ⌝ }
 {
     is_beyond(0, 99999, quantity.0) | is_beyond(lowest.0, highest.0, price.0)
 }
@@ -70,9 +72,9 @@ pub fn still_rises(rises: bool, any: bool, last: Price, price: Price) -> bool
 }
 
 // What the pairs up to some place have shown; `last` is the price of the last that isn't blank, if there is any.
-// Where a pair is outside, nothing else is told.
+// Where a pair is out of range, nothing else is told.
 pub struct Findings {
-    pub outside: bool,
+    pub out_of_range: bool,
     pub priced: bool,
     pub rises: bool,
     pub any: bool,
@@ -87,7 +89,7 @@ fn with_blank(f: Findings, price: Price) -> Findings
     let last = f.last;
     let total = f.total;
     Findings {
-        outside: f.outside,
+        out_of_range: f.out_of_range,
         priced: f.priced | !is_zero(price.0),
         rises: f.rises,
         any: f.any,
@@ -103,7 +105,7 @@ fn with_filled(f: Findings, price: Price, quantity: Quantity) -> Findings
     let last = f.last;
     let total = f.total;
     Findings {
-        outside: f.outside,
+        out_of_range: f.out_of_range,
         priced: f.priced,
         rises: still_rises(f.rises, f.any, last, price),
         any: true,
@@ -136,7 +138,7 @@ fn do_five_suffice(lowest: Price, highest: Price, service: u8, pairs: &[i32]) ->
     requires { ⌜ length (now pairs) ≡ 20 ⌝ }
     ensures { λ r. ⌜ (r ≡ true → do-five-suffice lowest highest (now (pairs .entry)) ≡ true) ⌝ }
 {
-    if service == 0 {
+    if service == facility::ENERGY {
         return false;
     }
     !is_out_of_range(lowest, highest, Price(0), Quantity(0)) & are_last_five_empty(pairs)
@@ -152,8 +154,8 @@ fn walk(
     from: usize,
     to: usize,
 ) -> Findings
-    requires { ⌜ (from ≤ to) × (to ≤ 10) × (length (now pairs) ≡ 20) × (start .outside ≡ false) × (natAbs (start .total .0) ≤ from * 2147483648) ⌝ }
-    ensures { λ r. ⌜ (found-from lowest highest start (pairs-in (drop (2 * from) (now (pairs .entry)))) ≡ cond (r .outside) r (found-from lowest highest r (pairs-in (drop (2 * to) (now (pairs .entry)))))) × (natAbs (r .total .0) ≤ to * 2147483648) ⌝ }
+    requires { ⌜ (from ≤ to) × (to ≤ 10) × (length (now pairs) ≡ 20) × (start .«out_of_range» ≡ false) × (natAbs (start .total .0) ≤ from * 2147483648) ⌝ }
+    ensures { λ r. ⌜ (found-from lowest highest start (pairs-in (drop (2 * from) (now (pairs .entry)))) ≡ cond (r .«out_of_range») r (found-from lowest highest r (pairs-in (drop (2 * to) (now (pairs .entry)))))) × (natAbs (r .total .0) ≤ to * 2147483648) ⌝ }
 {
     let mut f = start;
     for i in from..to {
@@ -161,7 +163,7 @@ fn walk(
         let quantity = quantity_at(pairs, 2 * i + 1);
         if is_out_of_range(lowest, highest, price, quantity) {
             return Findings {
-                outside: true,
+                out_of_range: true,
                 priced: false,
                 rises: true,
                 any: false,
@@ -180,7 +182,7 @@ fn findings_in(lowest: Price, highest: Price, pairs: &[i32], short: bool) -> Fin
     ensures { λ r. ⌜ r ≡ found-in lowest highest (pairs-in (now (pairs .entry))) ⌝ }
 {
     let none = Findings {
-        outside: false,
+        out_of_range: false,
         priced: false,
         rises: true,
         any: false,
@@ -188,7 +190,7 @@ fn findings_in(lowest: Price, highest: Price, pairs: &[i32], short: bool) -> Fin
         total: Sum(0),
     };
     let five = walk(lowest, highest, none, pairs, 0, 5);
-    if five.outside | short {
+    if five.out_of_range | short {
         return five;
     }
     walk(lowest, highest, five, pairs, 5, 10)
@@ -199,7 +201,7 @@ fn lowest_price(limits: &[i32], service: u8) -> Price
     requires { ⌜ length (now limits) ≡ 6 ⌝ }
     ensures { λ r. ⌜ r ≡ price-of (lowest-price (now (limits .entry)) service) ⌝ }
 {
-    if service == 0 {
+    if service == facility::ENERGY {
         price_at(limits, 0)
     } else {
         Price(0)
@@ -219,7 +221,7 @@ pub fn findings_of(limits: &[i32], service: u8, offer: &[i32]) -> Findings
 {
     let lowest = lowest_price(limits, service);
     let highest = highest_price(limits, service);
-    let pairs = &offer[3..];
+    let pairs = &offer[offer::PAIRS..];
     let short = do_five_suffice(lowest, highest, service, pairs);
     findings_in(lowest, highest, pairs, short)
 }

@@ -19,7 +19,7 @@ walk-requires-2 : tie.Need-walk-requires-2
 walk-requires-2 c κs =
     let five = c .before .before .walk in
     let s = c .before .before .before in
-    (omega arith, omega arith, s .pre .0, or-left (five .result .outside) (s .args .short) (c .if1 .left), five .ensures .1)
+    (omega arith, omega arith, s .pre .0, or-left (five .result .«out_of_range») (s .args .short) (c .if1 .left), five .ensures .1)
 
 returns-2 : tie.Need-returns-2
 returns-2 c =
@@ -27,9 +27,9 @@ returns-2 c =
     let s = c .before .before .before .before in
     let ten = c .walk2 in
     sym (five .ensures .0
-    ∙ goes-on (s .args .lowest) (s .args .highest) (s .args .pairs .now) (s .pre .0) (five .result) (five .result .outside) (or-left (five .result .outside) (s .args .short) (c .before .if1 .left))
+    ∙ goes-on (s .args .lowest) (s .args .highest) (s .args .pairs .now) (s .pre .0) (five .result) (five .result .«out_of_range») (or-left (five .result .«out_of_range») (s .args .short) (c .before .if1 .left))
     ∙ ten .ensures .0
-    ∙ ends-at-ten (s .args .lowest) (s .args .highest) (s .args .pairs .now) (s .pre .0) (ten .result) (ten .result .outside))
+    ∙ ends-at-ten (s .args .lowest) (s .args .highest) (s .args .pairs .now) (s .pre .0) (ten .result) (ten .result .«out_of_range»))
 
 pub findings-in-spec : {M : Type 1} → statement M
 findings-in-spec = tie.close (tie.spec walk-requires returns walk-requires-2 returns-2)

@@ -11,13 +11,13 @@ use mir.Syntax.{w32}
 use mir.Val.{SFits}
 use Rattle.offer_rules.specs.Offer.{pairs-in}
 use Rattle.offers.specs.PairTests.{blank, found-from}
-use Rattle.offers.proofs.Walks.{found-ends, found-goes-on, outside-kept, total-grows}
+use Rattle.offers.proofs.Walks.{found-ends, found-goes-on, out-of-range-kept, total-grows}
 use Rattle.offers.proofs.pairs.walk.Statement.{statement}
 use Rattle.offers.proofs.pairs.walk.Tie as tie
 
 abbrev Inv-loop : tie.InvT-loop
 Inv-loop lowest highest pairs from to start i₀ f i =
-    (i ≤ to) × (natAbs (f .total .0) ≤ i * 2147483648) × (f .outside ≡ false) × (found-from lowest highest f (pairs-in (drop (2 * i) pairs)) ≡ found-from lowest highest start (pairs-in (drop (2 * from) pairs)))
+    (i ≤ to) × (natAbs (f .total .0) ≤ i * 2147483648) × (f .«out_of_range» ≡ false) × (found-from lowest highest f (pairs-in (drop (2 * i) pairs)) ≡ found-from lowest highest start (pairs-in (drop (2 * from) pairs)))
 
 abbrev μ-loop : tie.MeasureT-loop
 μ-loop lowest highest pairs from to start i₀ f i = to - i
@@ -73,7 +73,7 @@ loop-again c =
     let f : SFits w32 (q .result .0) = search needs in (
       omega (arith, t),
       rw (c .with-pair .ensures) (omega (arith, total-grows (l .loop .f) (p .result) (q .result) (blank (q .result)), natAbs-le (q .result .0) (f .sfits))),
-      ap (λ g. g .outside) (c .with-pair .ensures) ∙ outside-kept (l .loop .f) (p .result) (q .result) (blank (q .result)) ∙ l .loop .inv .2,
+      ap (λ g. g .«out_of_range») (c .with-pair .ensures) ∙ out-of-range-kept (l .loop .f) (p .result) (q .result) (blank (q .result)) ∙ l .loop .inv .2,
       ap (λ g. found-from (s .args .lowest) (s .args .highest) g (pairs-in (drop (2 * (l .loop .i + 1)) (s .args .pairs .now)))) (c .with-pair .ensures)
           ∙ sym (found-goes-on (s .args .lowest) (s .args .highest) (l .loop .f) (s .args .pairs .now) (l .loop .i) (p .result) (q .result) (omega (arith, t, s .pre .1, s .pre .2)) (p .ensures) (q .ensures) (sym (c .before .before .is-out-of-range .ensures) ∙ c .before .if1 .left))
           ∙ l .loop .inv .3,
