@@ -10,18 +10,14 @@ ghost use Rattle.offer_rules.specs.Gate.{total-tenths, same-prices, covers, is-
 ghost use Rattle.gate.specs.Differing.{first-differing};
 ghost use Rattle.gate.specs.Merging.{left-of, alike, differ, merged};
 ghost use Rattle.gate.specs.Meaning.{window-of, grounds-of};
+use layout::facility;
+use layout::record;
+use layout::time;
 use units::Price;
 use units::Quantity;
 use units::nat;
 use units::price_at;
 use units::quantity_at;
-
-// "A variation is open when 30·P − now is 65 or more."
-const GATE_CLOSURE_MINUTES: u64 = 65;
-
-const PERIOD_MINUTES: u64 = 30;
-
-const SLOTS: u64 = 336;
 
 // A merge of two offers: the pair that it has come to in each, that pair's tenths that are passed, and all tenths passed.
 struct Merge {
@@ -178,13 +174,13 @@ fn is_covered(window: Window, period: u64) -> bool
 fn is_generation(g: Grounds) -> bool
     ensures { λ r. ⌜ r ≡ is-generation (g .kind) ⌝ }
 {
-    g.kind == 1
+    g.kind == facility::GENERATION
 }
 
 fn is_load(g: Grounds) -> bool
     ensures { λ r. ⌜ r ≡ is-load (g .kind) ⌝ }
 {
-    g.kind == 2
+    g.kind == facility::LOAD
 }
 
 // "Inside that it needs a reason", with the totals of old and new.
@@ -201,7 +197,7 @@ fn reason_holds(g: Grounds, service: u8, period: u64, old: u64, new: u64, reason
     match reason {
         1 => generation,
         2 => generation & outage,
-        3 => ((service == 0) & surplus) & (new < old),
+        3 => ((service == facility::ENERGY) & surplus) & (new < old),
         4 => shortfall & (old < new),
         5 => status & (old < new),
         6 => load & outage,
@@ -209,11 +205,12 @@ fn reason_holds(g: Grounds, service: u8, period: u64, old: u64, new: u64, reason
     }
 }
 
+// "A variation is open when 30·P − now is 65 or more."
 pub fn is_before_closure(clock: u64, period: u64) -> bool
     requires { ⌜ (clock ≤ 1000000000) × (period < 2147483648) ⌝ }
     ensures { λ r. ⌜ r ≡ is-open clock period ⌝ }
 {
-    clock + GATE_CLOSURE_MINUTES <= PERIOD_MINUTES * period
+    clock + time::GATE_CLOSURE_MINUTES <= time::PERIOD_MINUTES * period
 }
 
 // Only reasons 3 to 5 ask for the totals.
@@ -221,7 +218,7 @@ fn is_allowed(g: Grounds, service: u8, period: u64, reason: u8, old: &[i32], new
     requires { ⌜ (period < 2147483648) × (length (now old) ≤ 20) × (length (now new) ≤ 20) ⌝ }
     ensures { λ r. ⌜ r ≡ reason-holds (grounds-of g) service period (total-tenths (pairs-in (now (old .entry)))) (total-tenths (pairs-in (now (new .entry)))) reason ⌝ }
 {
-    if (3 <= reason) & (reason <= 5) {
+    if (record::ENERGY_SURPLUS <= reason) & (reason <= record::SYSTEM_STATUS) {
         let before = total_tenths(old);
         let after = total_tenths(new);
         return reason_holds(g, service, period, before, after, reason);
@@ -256,8 +253,8 @@ fn next_period(clock: u64, slot: u64) -> u64
     requires { ⌜ (clock ≤ 1000000000) × (slot < 336) ⌝ }
     ensures { λ r. ⌜ (r ≡ next-period clock slot) × (r < 2147483648) ⌝ }
 {
-    let first = clock / PERIOD_MINUTES + 1;
-    first + (slot + SLOTS - first % SLOTS) % SLOTS
+    let first = clock / time::PERIOD_MINUTES + 1;
+    first + (slot + time::SLOTS - first % time::SLOTS) % time::SLOTS
 }
 
 // 17, of a standing offer over a held one.

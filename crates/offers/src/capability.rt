@@ -73,7 +73,7 @@ pub fn is_proportion_refused(capability: &[i32], service: u8, offer: &[i32]) -> 
     requires { ⌜ (length (now capability) ≡ 17) × (service ≤ 4) × (length (now offer) ≡ 23) ⌝ }
     ensures { λ r. ⌜ r ≡ proportion-refused (now (capability .entry)) service (now (offer .entry)) ⌝ }
 {
-    let maximum = proportion_at(capability, facility::MAX_PROPORTION + service as usize);
+    let maximum = proportion_at(capability, facility::MAX_PROPORTION_OF_SERVICE + service as usize);
     let is_tested = is_generation(capability[facility::KIND]) & ((facility::PRIMARY_RESERVE <= service) & (service <= facility::CONTINGENCY_RESERVE));
     is_tested & is_none_or_above(maximum, proportion_at(offer, offer::PROPORTION))
 }

@@ -2,7 +2,7 @@
 use mathlib.Core.Path.{_∙_}
 use Rattle.units.proofs.Counts.{word-back}
 use Rattle.offer_rules.specs.Numbers.{word}
-use Rattle.book_rules.specs.Refusals.{has-kind, capability-number}
+use Rattle.book_rules.specs.Refusals.{capability-number}
 use borrow.Author.Needs.{needs}
 use Rattle.refusals.proofs.capability_number.Statement.{statement}
 use Rattle.refusals.proofs.capability_number.Tie as tie
@@ -23,7 +23,7 @@ draw-if-requires : tie.Need-draw-if-requires
 draw-if-requires c κs = search needs
 
 returns : tie.Need-returns
-unfolding has-kind capability-number
+unfolding capability-number
 returns c = (
   c .draw-if .ensures .0
       ∙ rw (

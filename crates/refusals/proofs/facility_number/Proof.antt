@@ -7,11 +7,11 @@ use borrow.Author.Needs.{needs}
 use Rattle.refusals.proofs.facility_number.Statement.{statement}
 use Rattle.refusals.proofs.facility_number.Tie as tie
 
-shared-slice-copy-out-has-kind : tie.Need-shared-slice-copy-out-has-kind
-shared-slice-copy-out-has-kind c = search needs
+shared-slice-copy-out-is-kind : tie.Need-shared-slice-copy-out-is-kind
+shared-slice-copy-out-is-kind c = search needs
 
-has-kind-requires : tie.Need-has-kind-requires
-has-kind-requires c κs = search needs
+is-kind-requires : tie.Need-is-kind-requires
+is-kind-requires c κs = search needs
 
 draw-if-requires : tie.Need-draw-if-requires
 draw-if-requires c κs = search needs
@@ -20,10 +20,10 @@ returns : tie.Need-returns
 unfolding facility-number has-kind
 returns c =
     let s = c .before .before .before in (
-      c .draw-if .ensures .0 ∙ rw (c .before .has-kind .ensures, word-back (word (s .args .capability .now) 0) (c .before .before .has-kind-arg .given)),
+      c .draw-if .ensures .0 ∙ rw (c .before .is-kind .ensures, word-back (word (s .args .capability .now) 0) (c .before .before .is-kind-arg .given)),
       c .draw-if .ensures .1,
     )
 
 pub facility-number-spec : {M : Type 1} → statement M
 facility-number-spec =
-    tie.close (tie.spec shared-slice-copy-out-has-kind has-kind-requires draw-if-requires returns)
+    tie.close (tie.spec shared-slice-copy-out-is-kind is-kind-requires draw-if-requires returns)

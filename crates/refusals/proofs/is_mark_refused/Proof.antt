@@ -1,4 +1,5 @@
 -- is_mark_refused: a range of words, and a load by its marks for energy and regulation.
+use Rattle.book_rules.specs.Refusals.{marks-refused}
 use borrow.Author.Needs.{needs}
 use Rattle.refusals.proofs.is_mark_refused.Statement.{statement}
 use Rattle.refusals.proofs.is_mark_refused.Tie as tie
@@ -16,6 +17,7 @@ any-beyond-requires : tie.Need-any-beyond-requires
 any-beyond-requires c κs = search needs
 
 returns : tie.Need-returns
+unfolding marks-refused
 returns c =
     rw (
       c .any-beyond .ensures,

@@ -1,4 +1,4 @@
--- revision_number: the gate and then the words, where an offer is held.
+-- revision_number: the gate and then the words.
 use mathlib.Core.Path.{_∙_}
 use native.Mathlib.Omega.{arith}
 use Rattle.book_rules.specs.Refusals.{revision-number}
@@ -13,9 +13,7 @@ draw-if-requires : tie.Need-draw-if-requires
 draw-if-requires c κs = search needs
 
 equal-words-requires : tie.Need-equal-words-requires
-equal-words-requires c κs =
-    let s = c .before .before .before in
-    (s .pre .2 (c .before .before .if1 .taken), s .pre .3)
+equal-words-requires c κs = search needs
 
 draw-if-requires-2 : tie.Need-draw-if-requires-2
 draw-if-requires-2 c κs = search needs
@@ -25,31 +23,18 @@ first-drawn-requires c κs = search needs
 
 returns : tie.Need-returns
 unfolding revision-number
-returns c =
-    let g = c .before .before .before .before in (
-      c .first-drawn .ensures .0
-          ∙ rw (
-            g .before .if1 .taken,
-            c .before .draw-if2 .ensures .0,
-            c .before .before .equal-words .ensures,
-            c .before .before .before .draw-if .ensures .0,
-            g .standing-gate-refuses .ensures,
-          ),
-      omega arith,
-    )
-
-returns-2 : tie.Need-returns-2
-unfolding revision-number
-returns-2 c = (rw (c .if1 .left), omega arith)
+returns c = (
+  c .first-drawn .ensures .0
+      ∙ rw (
+        c .before .draw-if2 .ensures .0,
+        c .before .before .equal-words .ensures,
+        c .before .before .before .draw-if .ensures .0,
+        c .before .before .before .before .standing-gate-refuses .ensures,
+      ),
+  omega arith,
+)
 
 pub revision-number-spec : {M : Type 1} → statement M
 revision-number-spec =
     tie.close
-    (tie.spec
-    standing-gate-refuses-requires
-    draw-if-requires
-    equal-words-requires
-    draw-if-requires-2
-    first-drawn-requires
-    returns
-    returns-2)
+    (tie.spec standing-gate-refuses-requires draw-if-requires equal-words-requires draw-if-requires-2 first-drawn-requires returns)
