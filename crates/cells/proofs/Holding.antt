@@ -3,15 +3,14 @@ use mathlib.Core.Path.{_≡_, refl, sym, ap, ap₂, _∙_}
 use mathlib.Core.Bool.{cond}
 use mathlib.Core.List.{List, [], _∷_}
 use mathlib.Core.Option.{Option, none, some}
-use Prim.Native.Nat.{ℕ, suc, _+_, _-_, _≤_}
+use Prim.Native.Nat.{ℕ, _+_, _-_, _≤_}
 use native.Mathlib.Omega.{arith}
 use native.Mathlib.Nat.{add-zero}
 use lib.IntN.{ℤ, pos}
-use lib.ListN.{length, take, drop}
-use lib.Seq.{drop-drop, drop-cons}
+use lib.ListN.{length, take, drop, length-drop}
+use lib.Seq.{drop-drop, take-all}
 use Rattle.offer_rules.specs.Numbers.{eqZ, word}
 use Rattle.offer_rules.specs.Time.{slot-of}
-use Rattle.offer_rules.specs.Offer.{pairs-in, pairs}
 use Rattle.book_rules.specs.Words.{part, cell-place, standing-half, variation-half, standing-stamp, variation-stamp}
 use Rattle.book_rules.specs.Force.{no-offer, standing-offer, offer-variation, first-of}
 use Rattle.book_rules.specs.Book.{facilities-in, services-in, held, book-view}
@@ -68,40 +67,26 @@ unfolding first-of
 never-a-variation none l e = let z : _≡_ {A = ℕ} 0 1 = cc e in omega arith
 never-a-variation (some x) l e = let z : _≡_ {A = ℕ} 0 1 = cc e in omega arith
 
--- ---- a cell's parts
+-- ---- a cell's offer
 
--- Words 4 to 23 are the pairs of its offer.
-pub pairs-at : (w : List ℤ) (at : ℕ) → pairs-in (part (at + 4) 20 w) ≡ pairs (offer-at w at)
-unfolding pairs offer-at part
-pairs-at w at = ap pairs-in (ap (take 20) (sym (drop-drop 4 at w)) ∙ sym (past-four (drop at w)))
-  where
-    past-four : (l : List ℤ) → drop 3 (drop 1 (take 24 l)) ≡ take 20 (drop 4 l)
-    past-four [] = refl
-    past-four (a ∷ []) = refl
-    past-four (a ∷ (b ∷ [])) = refl
-    past-four (a ∷ (b ∷ (c ∷ []))) = refl
-    past-four (a ∷ (b ∷ (c ∷ (d ∷ l)))) = refl
-
--- Its words 1 to 3, and those of its pairs, lent.
-pub offer-in-parts : (w : List ℤ) (at : ℕ) → at + 24 ≤ length w
-    → offer-at w at ≡ word w (at + 1) ∷ word w (at + 2) ∷ word w (at + 3) ∷ take (at + 24 - (at + 4)) (drop (at + 4) w)
+-- As it is lent.
+pub offer-lent : (at : ℕ) (w : List ℤ) → take (at + 24 - (at + 1)) (drop (at + 1) w) ≡ offer-at w at
 unfolding offer-at part
-offer-in-parts w at h =
-    let n : at + 24 - (at + 4) ≡ 20 = omega arith in
-    let one : suc (at + 1) ≡ at + 2 = omega arith in
-    let two : suc (at + 2) ≡ at + 3 = omega arith in
-    let three : suc (at + 3) ≡ at + 4 = omega arith in
-    past-one (drop at w)
-    ∙ ap (take 23)
-    (drop-drop 1 at w
-    ∙ drop-cons w (at + 1) (pos 0) (omega arith)
-    ∙ ap (λ (k : ℕ). word w (at + 1) ∷ drop k w) one
-    ∙ ap (λ (l : List ℤ). word w (at + 1) ∷ l)
-    (drop-cons w (at + 2) (pos 0) (omega arith)
-    ∙ ap (λ (k : ℕ). word w (at + 2) ∷ drop k w) two
-    ∙ ap (λ (l : List ℤ). word w (at + 2) ∷ l) (drop-cons w (at + 3) (pos 0) (omega arith) ∙ ap (λ (k : ℕ). word w (at + 3) ∷ drop k w) three)))
-    ∙ ap (λ (k : ℕ). word w (at + 1) ∷ word w (at + 2) ∷ word w (at + 3) ∷ take k (drop (at + 4) w)) (sym n)
+offer-lent at w =
+    let k : at + 24 - (at + 1) ≡ 23 = omega arith in
+    ap (λ (n : ℕ). take n (drop (at + 1) w)) k ∙ ap (take 23) (sym (drop-drop 1 at w)) ∙ sym (past-one (drop at w))
   where
     past-one : (l : List ℤ) → drop 1 (take 24 l) ≡ take 23 (drop 1 l)
     past-one [] = refl
     past-one (a ∷ l) = refl
+
+-- The words after its first three are those of its pairs.
+pub pairs-lent : (l : List ℤ) (n : ℕ) → length l ≡ n → take (n - 3) (drop 3 l) ≡ drop 3 l
+pairs-lent l n h = take-all (n - 3) (drop 3 l) (simp length-drop (omega arith))
+
+-- Its first three words, then those of its pairs.
+pub in-parts : (l : List ℤ) → 3 ≤ length l → word l 0 ∷ word l 1 ∷ word l 2 ∷ drop 3 l ≡ l
+in-parts [] h = absurd (omega arith)
+in-parts (a ∷ []) h = absurd (omega arith)
+in-parts (a ∷ (b ∷ [])) h = absurd (omega arith)
+in-parts (a ∷ (b ∷ (c ∷ l))) h = refl

@@ -1,21 +1,22 @@
 -- What the code's answers mean in document 01's rules: an offer in force by its cell's place, an answer's three fields,
 -- and the sizes that the book's words show.
 use mathlib.Core.Path.{_≡_}
-use mathlib.Core.List.{List, _∷_}
+use mathlib.Core.Bool.{Bool, true, false}
+use mathlib.Core.List.{List, [], _∷_}
 use Prim.Native.Nat.{ℕ, _+_, _≤_}
 use lib.IntN.{ℤ}
-use lib.ListN.{length, drop}
+use lib.ListN.{length}
 use Rattle.offer_rules.specs.Offer.{pairs, sum-of}
-use Rattle.book_rules.specs.Words.{part, book-size}
+use Rattle.book_rules.specs.Words.{part, book-size, cell-offer}
 use Rattle.book_rules.specs.Force as force
 use Rattle.book_rules.specs.Book.{facilities-in, services-in}
 use Rattle.cells.specs.declared.InForce as place
 use Rattle.cells.specs.declared.InForce.the-variants.{Nothing, Standing, Variation}
 use Rattle.cells.specs.declared.Answer as reply
 
--- The offer in the cell at a place: its words 1 to 23.
+-- The offer in the cell at a place.
 unfoldable pub offer-at : List ℤ → ℕ → List ℤ
-offer-at w at = drop 1 (part at 24 w)
+offer-at w at = cell-offer (part at 24 w)
 
 -- What each case says of the words w.
 unfoldable pub meaning : List ℤ → place.InForce → force.InForce
@@ -28,6 +29,17 @@ unfoldable pub end-of : place.InForce → ℕ
 end-of Nothing = 0
 end-of (Standing at) = at + 24
 end-of (Variation at) = at + 24
+
+unfoldable pub is-nothing : place.InForce → Bool
+is-nothing Nothing = true
+is-nothing (Standing at) = false
+is-nothing (Variation at) = false
+
+-- The words of an offer in force; none where there is no offer.
+unfoldable pub words-in-force : force.InForce → List ℤ
+words-in-force force.no-offer = []
+words-in-force (force.standing-offer o) = o
+words-in-force (force.offer-variation o) = o
 
 -- F and S as the words hold them, within their limits, and room for all the words they need.
 pub record Sized (w : List ℤ) (facilities services : ℕ) : Type 0 where

@@ -5,35 +5,23 @@ ghost use mathlib.Core.List.{[], _∷_};
 ghost use mathlib.Core.Option.{none};
 ghost use Prim.Native.Nat.{_+_, _≤_, _<_};
 ghost use lib.IntN.{pos, natAbs, _+ℤ_};
-ghost use lib.ListN.{length};
+ghost use lib.ListN.{length, drop};
 ghost use Rattle.offer_rules.specs.Numbers.{eqZ, word};
+ghost use Rattle.offer_rules.specs.Offer.{pairs-in};
 ghost use Rattle.book_rules.specs.Words.{put, book-size, cell-place, cell};
-ghost use Rattle.book_rules.specs.Force.{first-of, in-force, counted, offered, plain, found};
+ghost use Rattle.book_rules.specs.Force.{first-of, in-force, pairs-of, counted, offered, plain, found};
 ghost use Rattle.book_rules.specs.Refusals.{total-reply};
 ghost use Rattle.book_rules.specs.Book.{book-view};
-ghost use Rattle.cells.specs.Meaning.{Sized, meaning, end-of, answer-of, found-at, total-quantity};
+ghost use Rattle.cells.specs.Meaning.{Sized, offer-at, meaning, end-of, is-nothing, words-in-force, answer-of, found-at, total-quantity};
+use layout::cell;
+use layout::facility;
+use layout::head;
+use layout::offer;
+use layout::time;
 use offers::sum_of;
 use units::copy_words;
 
-// "Head", then "32 words a facility", then "cells of 24 words".
-const HEAD: usize = 64;
-
-const FACILITY: usize = 32;
-
-const CELL: usize = 24;
-
-// In a cell: the stamp, then the offer, whose pairs are words 4 to 23.
-const PAIRS: usize = 4;
-
-const PAIR_WORDS: usize = 20;
-
-const SLOTS: usize = 336;
-
-const STANDING_HALF: usize = 0;
-
-const VARIATION_HALF: usize = 1;
-
-const STANDING_STAMP: u32 = 1;
+const SLOTS: usize = time::SLOTS as usize;
 
 // ---- places
 
@@ -49,26 +37,63 @@ pub fn cell_place(
     requires { ⌜ (facilities ≤ 64) × (services ≤ 5) × (f < facilities) × (s < services) × (half < 2) × (slot < 336) ⌝ }
     ensures { λ r. ⌜ (r ≡ cell-place facilities services f s half slot) × (r + 24 ≤ book-size facilities services) ⌝ }
 {
-    HEAD + FACILITY * facilities + CELL * (((f * services + s) * 2 + half) * SLOTS + slot)
+    head::WORDS + facility::WORDS * facilities + cell::WORDS * (((f * services + s) * 2 + half) * SLOTS + slot)
 }
 
-// ---- stores
+// ---- a cell: write_cell encodes it, offer_words decodes it; nothing else knows the order of its words
 
 // "0 stamp (0 empty, 1 standing, P + 1 variation), 1 proportion, 2 ramp up, 3 ramp down, 4–23 pairs"
 fn write_cell(words: &mut [i32], stamp: u32, offer: &[i32])
     requires { ⌜ (length (now words) ≡ 24) × (stamp < 2147483648) × (length (now offer) ≡ 23) ⌝ }
     ensures { λ _. ⌜ now (words .exit) ≡ cell stamp (now (offer .entry)) ⌝ }
 {
-    words[0] = stamp as i32;
-    copy_words(&mut words[1..CELL], offer);
+    words[cell::STAMP] = stamp as i32;
+    copy_words(&mut words[cell::OFFER..cell::WORDS], offer);
 }
 
-// "An accepted offer writes one cell's 24 words and no other word."
-pub fn store_offer(book: &mut [i32], at: usize, stamp: u32, offer: &[i32])
-    requires { ⌜ (at + 24 ≤ length (now book)) × (stamp < 2147483648) × (length (now offer) ≡ 23) ⌝ }
-    ensures { λ _. ⌜ now (book .exit) ≡ put (now (book .entry)) at (cell stamp (now (offer .entry))) ⌝ }
+// The offer in the cell at a place.
+fn offer_words(book: &[i32], at: usize) -> &[i32]
+    requires { ⌜ at + 24 ≤ length (now book) ⌝ }
+    ensures { λ r. ⌜ (now r ≡ offer-at (now (book .entry)) at) × (length (now r) ≡ 23) ⌝ }
 {
-    let end = at + CELL;
+    &book[at + cell::OFFER..at + cell::WORDS]
+}
+
+// The words of its pairs.
+fn pair_words(book: &[i32], at: usize) -> &[i32]
+    requires { ⌜ at + 24 ≤ length (now book) ⌝ }
+    ensures { λ r. ⌜ (now r ≡ drop 3 (offer-at (now (book .entry)) at)) × (length (now r) ≡ 20) ⌝ }
+{
+    let words = offer_words(book, at);
+    &words[offer::PAIRS..]
+}
+
+fn is_stamped(book: &[i32], at: usize, stamp: u32) -> bool
+    requires { ⌜ (at < length (now book)) × (stamp < 2147483648) ⌝ }
+    ensures { λ r. ⌜ r ≡ eqZ (word (now (book .entry)) at) (pos stamp) ⌝ }
+{
+    book[at] == stamp as i32
+}
+
+// ---- stores
+
+// "An accepted offer writes one cell's 24 words and no other word."
+pub fn store_offer(
+    book: &mut [i32],
+    facilities: usize,
+    services: usize,
+    f: usize,
+    s: usize,
+    half: usize,
+    slot: usize,
+    stamp: u32,
+    offer: &[i32],
+)
+    requires { ⌜ Sized (now book) facilities services × (f < facilities) × (s < services) × (half < 2) × (slot < 336) × (stamp < 2147483648) × (length (now offer) ≡ 23) ⌝ }
+    ensures { λ _. ⌜ now (book .exit) ≡ put (now (book .entry)) (cell-place facilities services f s half slot) (cell stamp (now (offer .entry))) ⌝ }
+{
+    let at = cell_place(facilities, services, f, s, half, slot);
+    let end = at + cell::WORDS;
     write_cell(&mut book[at..end], stamp, offer);
 }
 
@@ -105,13 +130,6 @@ pub enum InForce {
     Variation(usize),
 }
 
-fn is_stamped(book: &[i32], at: usize, stamp: u32) -> bool
-    requires { ⌜ (at < length (now book)) × (stamp < 2147483648) ⌝ }
-    ensures { λ r. ⌜ r ≡ eqZ (word (now (book .entry)) at) (pos stamp) ⌝ }
-{
-    book[at] == stamp as i32
-}
-
 // "else the standing cell if its stamp is 1, else none"
 pub fn held_standing(
     book: &[i32],
@@ -124,8 +142,8 @@ pub fn held_standing(
     requires { ⌜ Sized (now book) facilities services × (f < facilities) × (s < services) × (slot < 336) ⌝ }
     ensures { λ r. ⌜ (meaning (now (book .entry)) r ≡ first-of none (book-view (now (book .entry)) .standing f s slot)) × (end-of r ≤ length (now (book .entry))) ⌝ }
 {
-    let at = cell_place(facilities, services, f, s, STANDING_HALF, slot);
-    if is_stamped(book, at, STANDING_STAMP) {
+    let at = cell_place(facilities, services, f, s, cell::STANDING_HALF, slot);
+    if is_stamped(book, at, cell::STANDING_STAMP) {
         return InForce::Standing(at);
     }
     InForce::Nothing
@@ -144,12 +162,45 @@ pub fn in_force(
     ensures { λ r. ⌜ (meaning (now (book .entry)) r ≡ in-force (book-view (now (book .entry))) f s period) × (end-of r ≤ length (now (book .entry))) ⌝ }
 {
     let slot = period % SLOTS;
-    let at = cell_place(facilities, services, f, s, VARIATION_HALF, slot);
+    let at = cell_place(facilities, services, f, s, cell::VARIATION_HALF, slot);
     let stamp = (period + 1) as u32;
     if is_stamped(book, at, stamp) {
         return InForce::Variation(at);
     }
     held_standing(book, facilities, services, f, s, slot)
+}
+
+pub fn is_nothing(offer: InForce) -> bool
+    ensures { λ r. ⌜ r ≡ is-nothing offer ⌝ }
+{
+    match offer {
+        InForce::Nothing => true,
+        InForce::Standing(at) => false,
+        InForce::Variation(at) => false,
+    }
+}
+
+// The words of an offer in force, and those of its pairs; none where nothing is in force.
+pub fn offer_of(book: &[i32], offer: InForce) -> &[i32]
+    requires { ⌜ end-of offer ≤ length (now book) ⌝ }
+    ensures { λ r. ⌜ now r ≡ words-in-force (meaning (now (book .entry)) offer) ⌝ }
+{
+    match offer {
+        InForce::Nothing => &book[0..0],
+        InForce::Standing(at) => offer_words(book, at),
+        InForce::Variation(at) => offer_words(book, at),
+    }
+}
+
+pub fn pairs_of(book: &[i32], offer: InForce) -> &[i32]
+    requires { ⌜ end-of offer ≤ length (now book) ⌝ }
+    ensures { λ r. ⌜ (pairs-in (now r) ≡ pairs-of (meaning (now (book .entry)) offer)) × (length (now r) ≤ 20) ⌝ }
+{
+    match offer {
+        InForce::Nothing => &book[0..0],
+        InForce::Standing(at) => pair_words(book, at),
+        InForce::Variation(at) => pair_words(book, at),
+    }
 }
 
 // ---- answers
@@ -178,9 +229,7 @@ fn total_quantity(book: &[i32], at: usize) -> i64
     requires { ⌜ at + 24 ≤ length (now book) ⌝ }
     ensures { λ r. ⌜ (r ≡ total-quantity (now (book .entry)) at) × (natAbs r ≤ 21474836480) ⌝ }
 {
-    let from = at + PAIRS;
-    let end = from + PAIR_WORDS;
-    sum_of(&book[from..end])
+    sum_of(pair_words(book, at))
 }
 
 // "word 0 is 1 (standing) or 2 (variation), then cell words 1–23"
@@ -189,14 +238,13 @@ fn found_at(book: &[i32], at: usize, kind: i32) -> Answer
     requires { ⌜ at + 24 ≤ length (now book) ⌝ }
     ensures { λ r. ⌜ answer-of r ≡ found-at (now (book .entry)) at kind ⌝ }
 {
-    let from = at + PAIRS;
-    let end = at + CELL;
+    let offer = offer_words(book, at);
     let mut words = [0i32; 24];
     words[0] = kind;
-    words[1] = book[at + 1];
-    words[2] = book[at + 2];
-    words[3] = book[at + 3];
-    copy_words(&mut words[PAIRS..], &book[from..end]);
+    words[1] = offer[offer::PROPORTION];
+    words[2] = offer[offer::RAMP_UP];
+    words[3] = offer[offer::RAMP_DOWN];
+    copy_words(&mut words[4..], pair_words(book, at));
     let sum = total_quantity(book, at);
     Answer {
         number: 0,

@@ -1,12 +1,15 @@
-use mathlib.Core.Path.{_≡_}
-use Prim.Native.Nat.{_+_}
-use native.Mathlib.Omega.{arith}
-use lib.ListN.{length}
 use borrow.Author.Needs.{needs}
-use Rattle.book_rules.specs.Words.{cell}
-use Rattle.cells.proofs.Putting.{lent-back}
 use Rattle.cells.proofs.store_offer.Statement.{statement}
 use Rattle.cells.proofs.store_offer.Tie as tie
+use mathlib.Core.Path.{_≡_, ap, _∙_}
+use Prim.Native.Nat.{ℕ, _+_}
+use native.Mathlib.Omega.{arith}
+use lib.ListN.{length}
+use Rattle.book_rules.specs.Words.{put, cell}
+use Rattle.cells.proofs.Putting.{lent-back}
+
+cell-place-requires : tie.Need-cell-place-requires
+cell-place-requires c κs = search needs
 
 add-end : tie.Need-add-end
 add-end c = search needs
@@ -32,15 +35,19 @@ same-length c = search needs
 returns : tie.Need-returns
 unfolding cell
 returns c =
-    let s = c .before .before .before in
+    let s = c .before .before .before .before in
+    let at = c .before .before .before .cell-place in
+    let w = s .args .book .now in
     let o = s .args .offer .now in
-    let n : length o ≡ 23 = s .pre .2 in
-    rw (c .before .write-cell .ensures) (lent-back (s .args .book .now) (cell (s .args .stamp) o) (s .args .at) (s .args .at + 24) (omega arith))
+    let n : length o ≡ 23 = s .pre .6 in
+    rw (c .before .write-cell .ensures)
+    (lent-back w (cell (s .args .stamp) o) (at .result) (at .result + 24) (omega arith) ∙ ap (λ (a : ℕ). put w a (cell (s .args .stamp) o)) (at .ensures .0))
 
 pub store-offer-spec : {M : Type 1} → statement M
 store-offer-spec =
     tie.close
     (tie.spec
+    cell-place-requires
     add-end
     mul-write-cell
     sub-write-cell
