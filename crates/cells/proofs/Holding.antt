@@ -81,8 +81,8 @@ offer-lent at w =
     past-one (a ∷ l) = refl
 
 -- The words after its first three are those of its pairs.
-pub pairs-lent : (l : List ℤ) (n : ℕ) → length l ≡ n → take (n - 3) (drop 3 l) ≡ drop 3 l
-pairs-lent l n h = take-all (n - 3) (drop 3 l) (simp length-drop (omega arith))
+pub tail-lent : (l : List ℤ) (n : ℕ) → length l ≡ n → take (n - 3) (drop 3 l) ≡ drop 3 l
+tail-lent l n h = take-all (n - 3) (drop 3 l) (simp length-drop (omega arith))
 
 -- Its first three words, then those of its pairs.
 pub in-parts : (l : List ℤ) → 3 ≤ length l → word l 0 ∷ word l 1 ∷ word l 2 ∷ drop 3 l ≡ l

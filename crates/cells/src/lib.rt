@@ -1,6 +1,7 @@
 // The book's words (document 01, "The book's words" and "Offer in force"): places, stores, the offer in force,
 // and what a look-up and a total answer. Each read goes straight to its words; the book is never copied.
 ghost use mathlib.Core.Path.{_≡_};
+ghost use mathlib.Core.Bool.{false};
 ghost use mathlib.Core.List.{[], _∷_};
 ghost use mathlib.Core.Option.{none};
 ghost use Prim.Native.Nat.{_+_, _≤_, _<_};
@@ -183,7 +184,7 @@ pub fn is_nothing(offer: InForce) -> bool
 // The words of an offer in force, and those of its pairs; none where nothing is in force.
 pub fn offer_of(book: &[i32], offer: InForce) -> &[i32]
     requires { ⌜ end-of offer ≤ length (now book) ⌝ }
-    ensures { λ r. ⌜ now r ≡ words-in-force (meaning (now (book .entry)) offer) ⌝ }
+    ensures { λ r. ⌜ (now r ≡ words-in-force (meaning (now (book .entry)) offer)) × (is-nothing offer ≡ false → length (now r) ≡ 23) ⌝ }
 {
     match offer {
         InForce::Nothing => &book[0..0],

@@ -1,17 +1,15 @@
 -- A part of the book that is lent on is a part of its words.
-use mathlib.Core.Path.{_≡_, refl, sym, _∙_, ap}
-use mathlib.Core.List.{List, [], _∷_}
+use mathlib.Core.Path.{_≡_, _∙_, ap}
+use mathlib.Core.List.{List}
 use Prim.Native.Nat.{ℕ, _+_, _-_, _≤_, _<_}
 use native.Mathlib.Omega.{arith}
 use lib.IntN.{ℤ, pos}
 use lib.ListN.{take, drop}
-use lib.Seq.{drop-drop}
 use Rattle.offer_rules.specs.Numbers.{word}
 use Rattle.offer_rules.specs.Gate.{Window}
 use Rattle.book_rules.specs.Words.{part}
 use Rattle.book_rules.specs.Book.{window-in}
 use Rattle.book_rules.proofs.Parts.{word-of-part}
-use Rattle.cells.specs.Meaning.{offer-at}
 
 pub lent : (a n e : ℕ) (w : List ℤ) → e ≡ a + n → take (e - a) (drop a w) ≡ part a n w
 unfolding part
@@ -25,14 +23,3 @@ first-of-part a n w h = let e : a + 0 ≡ a = omega arith in word-of-part a n 0 
 pub window-words : (a : ℕ) (w : List ℤ) → window-in (part a 2 w) ≡ record { first = word w a; last = word w (a + 1) }
 unfolding window-in
 window-words a w = λ i. record { first = first-of-part a 2 w (omega arith) i; last = word-of-part a 2 1 w (omega arith) i }
-
--- An offer lent from its cell.
-pub offer-lent : (at : ℕ) (w : List ℤ) → take (at + 24 - (at + 1)) (drop (at + 1) w) ≡ offer-at w at
-unfolding offer-at part
-offer-lent at w =
-    let k : at + 24 - (at + 1) ≡ 23 = omega arith in
-    ap (λ (n : ℕ). take n (drop (at + 1) w)) k ∙ ap (take 23) (sym (drop-drop 1 at w)) ∙ sym (past-one (drop at w))
-  where
-    past-one : (l : List ℤ) → drop 1 (take 24 l) ≡ take 23 (drop 1 l)
-    past-one [] = refl
-    past-one (a ∷ l) = refl

@@ -2,13 +2,11 @@
 use mathlib.Core.Path.{_≡_}
 use mathlib.Core.Bool.{Bool, true}
 use mathlib.Core.List.{List}
-use mathlib.Core.Option.{Option, none, some}
 use Prim.Native.Nat.{ℕ, _+_, _*_, _≤_}
 use lib.IntN.{ℤ}
 use lib.ListN.{length}
 use Rattle.offer_rules.specs.Numbers.{toNat, word}
 use Rattle.book_rules.specs.Words.{clock-place, is-book}
-use Rattle.book_rules.specs.Force.{InForce, no-offer, standing-offer, offer-variation}
 use Rattle.book_rules.specs.Book.{facilities-in, services-in}
 use Rattle.cells.specs.Meaning.{Sized}
 
@@ -17,9 +15,3 @@ pub record Usable (w : List ℤ) : Type 0 where
   pub sized : Sized w (facilities-in w) (services-in w)
   pub blocks : 64 + 32 * facilities-in w ≤ length w
   pub timely : toNat (word w clock-place) ≤ 1000000000
-
--- The offer of an answer about what is held.
-unfoldable pub held-in : InForce → Option (List ℤ)
-held-in no-offer = none
-held-in (standing-offer o) = some o
-held-in (offer-variation o) = some o

@@ -1,8 +1,10 @@
 use borrow.Author.Needs.{needs}
 use Rattle.cells.proofs.offer_of.Statement.{statement}
 use Rattle.cells.proofs.offer_of.Tie as tie
+use mathlib.Core.Path.{refl}
+use mathlib.Core.Bool.{true≢false}
 use lib.ListN.{length}
-use Rattle.cells.specs.Meaning.{meaning, words-in-force}
+use Rattle.cells.specs.Meaning.{meaning, is-nothing, words-in-force}
 use Rattle.cells.proofs.Holding.{standing-inside, variation-inside}
 
 enum-told : tie.Need-enum-told
@@ -34,16 +36,16 @@ offer-words-requires-2 c κs =
     variation-inside (s .args .offer) (c .before .offer2 .given .0 .0) (length (s .args .book .now)) (c .before .offer2 .given .1) (s .pre)
 
 returns : tie.Need-returns
-unfolding meaning words-in-force
-returns c = rw (c .before .enum-told .given .1)
+unfolding meaning words-in-force is-nothing
+returns c = rw (c .before .enum-told .given .1) (refl, λ e. absurd (true≢false e))
 
 returns-2 : tie.Need-returns-2
 unfolding meaning words-in-force
-returns-2 c = rw (c .before .before .offer .given .1) (c .offer-words .ensures .0)
+returns-2 c = rw (c .before .before .offer .given .1) (c .offer-words .ensures .0, λ _. c .offer-words .ensures .1)
 
 returns-3 : tie.Need-returns-3
 unfolding meaning words-in-force
-returns-3 c = rw (c .before .before .offer2 .given .1) (c .offer-words2 .ensures .0)
+returns-3 c = rw (c .before .before .offer2 .given .1) (c .offer-words2 .ensures .0, λ _. c .offer-words2 .ensures .1)
 
 pub offer-of-spec : {M : Type 1} → statement M
 offer-of-spec =

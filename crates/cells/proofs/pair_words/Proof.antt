@@ -4,7 +4,7 @@ use Rattle.cells.proofs.pair_words.Tie as tie
 use mathlib.Core.Path.{_≡_, refl, ap, _∙_}
 use native.Mathlib.Omega.{arith}
 use lib.ListN.{length, drop, length-drop}
-use Rattle.cells.proofs.Holding.{pairs-lent}
+use Rattle.cells.proofs.Holding.{tail-lent}
 
 offer-words-requires : tie.Need-offer-words-requires
 offer-words-requires c κs = search needs
@@ -21,7 +21,7 @@ part-result-end c = search needs
 returns : tie.Need-returns
 returns c =
     let x = c .before .offer-words in
-    let e = pairs-lent (x .result .now) (length (x .result .now)) refl in
+    let e = tail-lent (x .result .now) (length (x .result .now)) refl in
     (e ∙ ap (drop 3) (x .ensures .0), rw e (simp length-drop (omega (arith, x .ensures .1))))
 
 pub pair-words-spec : {M : Type 1} → statement M

@@ -1,76 +1,56 @@
 use borrow.Author.Needs.{needs}
 use Rattle.judging.proofs.gate_number.Statement.{statement}
 use Rattle.judging.proofs.gate_number.Tie as tie
-use Rattle.judging.proofs.gate_number.Reads as reads
-use Rattle.judging.proofs.gate_number.Lts as lts
-use Rattle.judging.proofs.gate_over.Reads as gate-over-reads
-use Rattle.judging.proofs.gate_over_nothing.Reads as gate-over-nothing-reads
-use Rattle.judging.proofs.grounds_of.Reads as grounds-of-reads
-use mathlib.Core.Path.{_≡_, refl, sym, _∙_, ap, ap₂}
-use Rattle.book_rules.specs.Force.{pairs-of}
+use mathlib.Core.Path.{_∙_, ap}
+use mathlib.Core.Bool.{Bool}
+use Rattle.offer_rules.specs.Numbers.{draw}
+use Rattle.offer_rules.specs.Gate.{gate-refuses}
+use Rattle.offers.proofs.Pairing.{pairs-lent}
 use Rattle.book_rules.specs.Refusals.{gate-number}
-use Rattle.cells.specs.Meaning.{meaning, end-of}
 
--- src/lib.rt:264:9
+clock-requires : tie.Need-clock-requires
+clock-requires c κs = search needs
+
 grounds-of-requires : tie.Need-grounds-of-requires
 grounds-of-requires c κs = search needs
 
--- src/lib.rt:266:29
-enum-told : tie.Need-enum-told
-enum-told c = search needs
+pairs-of-requires : tie.Need-pairs-of-requires
+pairs-of-requires c κs = search needs
 
--- src/lib.rt:266:29
-gate-over-nothing-requires : tie.Need-gate-over-nothing-requires
-gate-over-nothing-requires c κs = search needs
+sub-gate-refuses : tie.Need-sub-gate-refuses
+sub-gate-refuses c = search needs
 
--- src/lib.rt:267:27
-enum-known-old : tie.Need-enum-known-old
-enum-known-old c = search needs
+part-gate-refuses-start : tie.Need-part-gate-refuses-start
+part-gate-refuses-start c = search needs
 
--- src/lib.rt:267:34
-gate-over-requires : tie.Need-gate-over-requires
-unfolding end-of
-gate-over-requires c κs =
-    let s = c .before .before .before .before in
-    (s .pre .0, rw (c .before .old .given .1) at (s .pre .2), s .pre .3, s .pre .4)
+part-gate-refuses-end : tie.Need-part-gate-refuses-end
+part-gate-refuses-end c = search needs
 
--- src/lib.rt:268:28
-enum-known-old-2 : tie.Need-enum-known-old-2
-enum-known-old-2 c = search needs
+gate-refuses-requires : tie.Need-gate-refuses-requires
+gate-refuses-requires c κs = search needs
 
--- src/lib.rt:268:35
-gate-over-requires-2 : tie.Need-gate-over-requires-2
-unfolding end-of
-gate-over-requires-2 c κs =
-    let s = c .before .before .before .before in
-    (s .pre .0, rw (c .before .old2 .given .1) at (s .pre .2), s .pre .3, s .pre .4)
+draw-if-requires : tie.Need-draw-if-requires
+draw-if-requires c κs = search needs
 
--- src/lib.rt:252:1
 returns : tie.Need-returns
-unfolding gate-number meaning pairs-of
-returns c = rw (c .before .enum-told .given .1, ← c .before .before .before .grounds-of .ensures) (c .gate-over-nothing .ensures)
-
--- src/lib.rt:252:1
-returns-2 : tie.Need-returns-2
-unfolding gate-number meaning pairs-of
-returns-2 c = rw (c .before .before .old .given .1, ← c .before .before .before .before .grounds-of .ensures) (c .gate-over .ensures)
-
--- src/lib.rt:252:1
-returns-3 : tie.Need-returns-3
-unfolding gate-number meaning pairs-of
-returns-3 c = rw (c .before .before .old2 .given .1, ← c .before .before .before .before .grounds-of .ensures) (c .gate-over2 .ensures)
+unfolding gate-number
+returns c =
+    let s = c .before .before .before .before .before .before in
+    let e = c .before .gate-refuses .ensures
+    ∙ (λ i. gate-refuses (c .before .before .before .before .before .clock .ensures .0 i) (c .before .before .before .before .grounds-of .ensures i) (s .args .service) (s .args .period)
+    (s .args .reason) (c .before .before .before .pairs-of .ensures .0 i) (pairs-lent (s .args .offer .now) i)) in
+    (c .draw-if .ensures .0 ∙ ap (λ (t : Bool). draw t 17) e, c .draw-if .ensures .1)
 
 pub gate-number-spec : {M : Type 1} → statement M
 gate-number-spec =
     tie.close
     (tie.spec
+    clock-requires
     grounds-of-requires
-    enum-told
-    gate-over-nothing-requires
-    enum-known-old
-    gate-over-requires
-    enum-known-old-2
-    gate-over-requires-2
-    returns
-    returns-2
-    returns-3)
+    pairs-of-requires
+    sub-gate-refuses
+    part-gate-refuses-start
+    part-gate-refuses-end
+    gate-refuses-requires
+    draw-if-requires
+    returns)
