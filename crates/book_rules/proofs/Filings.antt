@@ -15,7 +15,7 @@ use Rattle.offer_rules.specs.Time.{slot-of}
 use Rattle.offer_rules.specs.Gate.{Window}
 use Rattle.book_rules.specs.Record.{call-of, facility-of, service-of, period-word, reason-of, word-A, word-B, capability-in, offer-in}
 use Rattle.book_rules.specs.Words.{put, cell, standing-stamp, variation-stamp}
-use Rattle.book_rules.specs.Book.{facilities-in, services-in, held, file-standing, file-variation, outage-words, book-accept}
+use Rattle.book_rules.specs.Book.{facilities-in, services-in, held, file-offer, outage-words, book-accept}
 use Rattle.book_rules.specs.ListMachine.{newest, list-clock, list-capability, list-outage, list-notice, list-standing, list-variation}
 use Rattle.book_rules.proofs.Calls.{length-capability, length-offer}
 use Rattle.book_rules.proofs.Places.{Key, clockK, noticeK, capabilityK, outageK, standingK, variationK, place, width}
@@ -163,7 +163,7 @@ module _ (b : List ℕ) where
     standing-keeps e l (variationK f s q) n = rw e
 
     pub standing-files : call-of b ≡ 3 → Files b (standingK (facility-of b) (service-of b) p) (cell standing-stamp (offer-in b))
-    unfolding book-accept file-standing place width shown listed newest list-standing held cell
+    unfolding book-accept file-offer place width shown listed newest list-standing held cell
     standing-files e = record {
       writes = λ w. rw (e, is);
       sized = ap suc (length-offer b);
@@ -182,7 +182,7 @@ module _ (b : List ℕ) where
         rw (e, is, three-apart (facility-of b) (service-of b) p f s q (λ x y z. n (λ i. variationK (sym x i) (sym y i) (sym z i))))
 
     pub variation-files : call-of b ≡ 4 → Files b (variationK (facility-of b) (service-of b) p) (cell (variation-stamp p) (offer-in b))
-    unfolding book-accept file-variation place width shown listed newest list-variation held cell
+    unfolding book-accept file-offer place width shown listed newest list-variation held cell
     variation-files e = record {
       writes = λ w. rw (e, is);
       sized = ap suc (length-offer b);

@@ -48,11 +48,14 @@ book-view w = record {
 -- ---- what an accepted call writes
 
 -- "An accepted offer writes one cell's 24 words and no other word."
-unfoldable pub file-standing : List ℤ → ℕ → ℕ → ℕ → List ℤ → List ℤ
-file-standing w f s k o = put w (cell-place (facilities-in w) (services-in w) f s standing-half k) (cell standing-stamp o)
+unfoldable pub file-offer : List ℤ → ℕ → ℕ → ℕ → ℕ → ℕ → List ℤ → List ℤ
+file-offer w f s h k stamp o = put w (cell-place (facilities-in w) (services-in w) f s h k) (cell stamp o)
 
-unfoldable pub file-variation : List ℤ → ℕ → ℕ → ℕ → List ℤ → List ℤ
-file-variation w f s p o = put w (cell-place (facilities-in w) (services-in w) f s variation-half (slot-of p)) (cell (variation-stamp p) o)
+abbrev pub file-standing : List ℤ → ℕ → ℕ → ℕ → List ℤ → List ℤ
+file-standing w f s k o = file-offer w f s standing-half k standing-stamp o
+
+abbrev pub file-variation : List ℤ → ℕ → ℕ → ℕ → List ℤ → List ℤ
+file-variation w f s p o = file-offer w f s variation-half (slot-of p) (variation-stamp p) o
 
 abbrev pub words-of : Window → List ℤ
 words-of v = v .first ∷ (v .last ∷ [])

@@ -1,0 +1,50 @@
+-- An offer's number in two parts: 5, 9 and 10, and what it draws once it is admitted; and what its call then answers and leaves.
+use mathlib.Core.Path.{_≡_, refl, sym, _∙_}
+use mathlib.Core.Bool.{Bool, cond}
+use mathlib.Core.List.{List}
+use Prim.Native.Nat.{ℕ, zero, suc, _≤_}
+use native.Mathlib.Omega.{arith}
+use lib.Dec.{eqb}
+use lib.IntN.{ℤ}
+use borrow.Author.Tests.{ne-eqb}
+use Rattle.offer_rules.specs.Numbers.{toNat, word, _then_}
+use Rattle.offer_rules.specs.Time.{slot-refused, period-refused}
+use Rattle.units.proofs.Chains.{then-none, then-drawn}
+use Rattle.book_rules.specs.Record.{call-of, facility-of, service-of, period-word, reason-of, offer-in}
+use Rattle.book_rules.specs.Words.{part, clock-place, facility-place}
+use Rattle.book_rules.specs.Force.{plain}
+use Rattle.book_rules.specs.Refusals.{judge, admission-number, admitted-standing, admitted-variation, standing-number, variation-number}
+use Rattle.book_rules.specs.Book.{book-view, book-accept}
+use Rattle.book_rules.proofs.Calls.{judge-standing, judge-variation}
+use Rattle.judging.specs.Tested.{Tested}
+use Rattle.judging.proofs.Answering.{Answers, refused, filed}
+
+module _ (w : List ℤ) (b : List ℕ) (t : Tested w b) (admission rest : ℕ) (j : judge (book-view w) b ≡ (admission then rest)) where
+  -- Not admitted.
+  pub turned-away : (n : ℕ) → n ≡ admission → (n ≡ 0 → ⊥) → Answers w b (plain n) w
+  turned-away n e h = refused w b t n (j ∙ then-drawn admission rest (λ z. h (e ∙ z)) ∙ sym e) h
+
+  -- Admitted: the number it draws, and the words where it draws none.
+  pub judged : (k : ℕ) → call-of b ≡ k → k ≤ 7 → admission ≡ 0 → (n : ℕ) → n ≡ rest → (v : List ℤ) → v ≡ book-accept w b
+      → Answers w b (plain n) (cond (eqb n 0) v w)
+  judged k c h z n e v q = go n (j ∙ then-none admission rest z ∙ sym e)
+    where
+      go : (m : ℕ) → judge (book-view w) b ≡ m → Answers w b (plain m) (cond (eqb m 0) v w)
+      go zero d = filed w b t k c h d v q
+      go (suc m) d = rw (ne-eqb (suc m) 0 (λ x. omega arith)) (refused w b t (suc m) d (λ x. omega arith))
+
+-- 5, 9 and 10 of the offer that a record carries.
+abbrev pub admission-of : List ℤ → List ℕ → Bool → ℕ
+admission-of w b refused = admission-number (part (facility-place (facility-of b)) 17 w) (service-of b) refused
+
+module _ (w : List ℤ) (b : List ℕ) where
+  pub standing-parts : call-of b ≡ 3
+      → judge (book-view w) b ≡ (admission-of w b (slot-refused (period-word b)) then admitted-standing (book-view w) (facility-of b) (service-of b) (toNat (period-word b)) (offer-in b))
+  unfolding standing-number book-view
+  standing-parts c = judge-standing (book-view w) b c
+
+  pub variation-parts : call-of b ≡ 4
+      → judge (book-view w) b
+      ≡ (admission-of w b (period-refused (toNat (word w clock-place)) (period-word b)) then admitted-variation (book-view w) (facility-of b) (service-of b) (toNat (period-word b)) (reason-of b) (offer-in b))
+  unfolding variation-number book-view
+  variation-parts c = judge-variation (book-view w) b c
