@@ -15,7 +15,6 @@ use Rattle.book_rules.specs.Force.{plain}
 use Rattle.book_rules.specs.Book.{facilities-in, services-in}
 use Rattle.book_rules.proofs.Calls.{Which, named, capability-uses, standing-uses, variation-uses, outage-uses, look-up-uses, total-uses}
 use Rattle.book_rules.proofs.OneCall.{unusable, turned-away}
-use Rattle.opening.specs.Usable as opening
 use Rattle.opening.proofs.UsableBooks as books
 use Rattle.judging.specs.Usable.{Usable}
 use Rattle.judging.specs.Tested.{Tested, Facility, Place}
@@ -26,7 +25,7 @@ use Rattle.book.specs.Tests.{tested-number}
 pub usable : (w : List ℤ) → is-book w ≡ true → Usable w
 unfolding book-size
 usable w e =
-    let u : opening.Usable w = books.usable w e in
+    let u : books.BookWords w = books.usable w e in
     record {
       is-usable = e;
       sized = record {

@@ -10,6 +10,8 @@ use cells::plain;
 use judging::facilities;
 use judging::services;
 use layout::head;
+use layout::record as fields;
+use layout::refusal;
 use opening::is_book;
 use reading::look_up_call;
 use reading::total_call;
@@ -22,15 +24,12 @@ use writing::standing_call;
 use writing::variation_call;
 use writing::withdrawal_call;
 
-// The byte that names the call.
-const CALL_BYTE: usize = 5;
-
 // 1, then 2 to 4; else 0.
 fn tested_number(book: &[i32], bytes: &[u8]) -> u8
     ensures { λ r. ⌜ r ≡ tested-number (now (book .entry)) (now (bytes .entry)) ⌝ }
 {
     if !is_book(book) {
-        return 1;
+        return refusal::BOOK_UNUSABLE;
     }
     record_number(bytes, facilities(book) as u64, services(book) as u64)
 }
@@ -45,7 +44,7 @@ pub extern "C" fn bilzhaan_call(words: &mut [i32], bytes: &[u8]) -> Answer
     if 0 < number {
         return plain(number);
     }
-    let call = bytes[CALL_BYTE];
+    let call = bytes[fields::CALL];
     match call {
         1 => return plain(clock_call(words, bytes)),
         2 => return plain(capability_call(words, bytes)),
@@ -56,7 +55,7 @@ pub extern "C" fn bilzhaan_call(words: &mut [i32], bytes: &[u8]) -> Answer
         7 => return plain(withdrawal_call(words, bytes)),
         8 => return look_up_call(words, bytes),
         9 => return total_call(words, bytes),
-        0 | 10..=255 => return plain(2),
+        0 | 10..=255 => return plain(refusal::NOT_A_RECORD),
     }
 }
 

@@ -38,7 +38,9 @@ pub fn cell_place(
     requires { ⌜ (facilities ≤ 64) × (services ≤ 5) × (f < facilities) × (s < services) × (half < 2) × (slot < 336) ⌝ }
     ensures { λ r. ⌜ (r ≡ cell-place facilities services f s half slot) × (r + 24 ≤ book-size facilities services) ⌝ }
 {
-    head::WORDS + facility::WORDS * facilities + cell::WORDS * (((f * services + s) * 2 + half) * SLOTS + slot)
+    head::WORDS
+        + facility::WORDS * facilities
+        + cell::WORDS * (((f * services + s) * 2 + half) * SLOTS + slot)
 }
 
 // ---- a cell: write_cell encodes it, offer_words decodes it; nothing else knows the order of its words

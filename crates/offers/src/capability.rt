@@ -39,8 +39,14 @@ pub fn is_ramp_refused(capability: &[i32], service: u8, offer: &[i32]) -> bool
     requires { ⌜ (length (now capability) ≡ 17) × (length (now offer) ≡ 23) ⌝ }
     ensures { λ r. ⌜ r ≡ ramp-refused (now (capability .entry)) service (now (offer .entry)) ⌝ }
 {
-    let up = is_ramp_beyond(ramp_at(capability, facility::MAX_RAMP_UP), ramp_at(offer, offer::RAMP_UP));
-    let down = is_ramp_beyond(ramp_at(capability, facility::MAX_RAMP_DOWN), ramp_at(offer, offer::RAMP_DOWN));
+    let up = is_ramp_beyond(
+        ramp_at(capability, facility::MAX_RAMP_UP),
+        ramp_at(offer, offer::RAMP_UP),
+    );
+    let down = is_ramp_beyond(
+        ramp_at(capability, facility::MAX_RAMP_DOWN),
+        ramp_at(offer, offer::RAMP_DOWN),
+    );
     (service == facility::ENERGY) & (up | down)
 }
 
@@ -73,8 +79,12 @@ pub fn is_proportion_refused(capability: &[i32], service: u8, offer: &[i32]) -> 
     requires { ⌜ (length (now capability) ≡ 17) × (service ≤ 4) × (length (now offer) ≡ 23) ⌝ }
     ensures { λ r. ⌜ r ≡ proportion-refused (now (capability .entry)) service (now (offer .entry)) ⌝ }
 {
-    let maximum = proportion_at(capability, facility::MAX_PROPORTION_OF_SERVICE + service as usize);
-    let is_tested = is_generation(capability[facility::KIND]) & ((facility::PRIMARY_RESERVE <= service) & (service <= facility::CONTINGENCY_RESERVE));
+    let maximum = proportion_at(
+        capability,
+        facility::MAX_PROPORTION_OF_SERVICE + service as usize,
+    );
+    let is_tested = is_generation(capability[facility::KIND])
+        & ((facility::PRIMARY_RESERVE <= service) & (service <= facility::CONTINGENCY_RESERVE));
     is_tested & is_none_or_above(maximum, proportion_at(offer, offer::PROPORTION))
 }
 

@@ -42,7 +42,13 @@ pub fn is_period_refused(clock: u64, period: i32) -> bool
 // ---- 11 to 16
 
 // Returns at the first that applies.
-pub fn offer_number(limits: &[i32], capability: &[i32], service: u8, reason: u8, offer: &[i32]) -> u8
+pub fn offer_number(
+    limits: &[i32],
+    capability: &[i32],
+    service: u8,
+    reason: u8,
+    offer: &[i32],
+) -> u8
     requires { ⌜ (length (now limits) ≡ 6) × (length (now capability) ≡ 17) × (service ≤ 4) × (length (now offer) ≡ 23) ⌝ }
     ensures { λ r. ⌜ (r ≡ offer-number (now (limits .entry)) (now (capability .entry)) service reason (now (offer .entry))) × (r ≤ 16) ⌝ }
 {

@@ -12,14 +12,38 @@ use borrow.Author.Tests.{leb-true, ltb-false, eqb-true, not-true, not-false}
 use Rattle.offer_rules.specs.Numbers.{eqZ, toNat, word, beyond}
 use Rattle.offer_rules.proofs.Drawn.{and-left, and-right, or-right, draw-zero}
 use Rattle.book_rules.specs.Record.{sizes-ok}
+use Rattle.book_rules.specs.Book.{facilities-in, services-in}
 use Rattle.book_rules.specs.Words.{book-size, book-mark, book-version, clock-place, is-book, limits-ok, opening-number}
-use Rattle.opening.specs.Usable.{Sized, Usable}
+
+-- Sizes that are not refused are counts.
+pub record Sizes (F S : ℤ) : Type 0 where
+  pub F-is : F ≡ pos (toNat F)
+  pub S-is : S ≡ pos (toNat S)
+  pub least-F : 1 ≤ toNat F
+  pub most-F : toNat F ≤ 64
+  pub one-or-five : (toNat S ≡ 1) ⊎ (toNat S ≡ 5)
+  pub least-S : 1 ≤ toNat S
+  pub most-S : toNat S ≤ 5
+
+-- Words that refusal 1 doesn't turn down.
+pub record BookWords (w : List ℤ) : Type 0 where
+  pub head-fits : 64 ≤ length w
+  pub book-fits : book-size (facilities-in w) (services-in w) ≤ length w
+  pub F-is : word w 2 ≡ pos (facilities-in w)
+  pub S-is : word w 3 ≡ pos (services-in w)
+  pub clock-is : word w clock-place ≡ pos (toNat (word w clock-place))
+  pub least-F : 1 ≤ facilities-in w
+  pub most-F : facilities-in w ≤ 64
+  pub one-or-five : (services-in w ≡ 1) ⊎ (services-in w ≡ 5)
+  pub least-S : 1 ≤ services-in w
+  pub most-S : services-in w ≤ 5
+  pub most-clock : toNat (word w clock-place) ≤ 1000000000
 
 or-true : (a b : Bool) → a || b ≡ true → (a ≡ true) ⊎ (b ≡ true)
 or-true true b e = inl refl
 or-true false b e = inr e
 
-pub sized : (F S : ℤ) → sizes-ok F S ≡ true → Sized F S
+pub sized : (F S : ℤ) → sizes-ok F S ≡ true → Sizes F S
 unfolding sizes-ok
 sized (negsuc F) S e = absurd (false≢true e)
 sized (pos F) (negsuc S) e = absurd (false≢true (and-right (leb 1 F && leb F 64) false e))
@@ -42,7 +66,7 @@ pub count-within : (n : ℕ) (z : ℤ) → beyond (pos 0) (pos n) z ≡ false �
 count-within n (pos m) e = (refl, ltb-false n m (or-right (ltb m 0) (ltb n m) e))
 count-within n (negsuc m) e = absurd (true≢false e)
 
-pub usable : (w : List ℤ) → is-book w ≡ true → Usable w
+pub usable : (w : List ℤ) → is-book w ≡ true → BookWords w
 unfolding is-book
 usable w e =
     let head = leb 64 (length w) && (eqZ (word w 0) book-mark && eqZ (word w 1) book-version) in
@@ -51,7 +75,7 @@ usable w e =
     let timely = not (beyond (pos 0) (pos 1000000000) (word w clock-place)) in
     let front : head && sizes ≡ true = and-left (head && sizes) (room && timely) e in
     let rest : room && timely ≡ true = and-right (head && sizes) (room && timely) e in
-    let s : Sized (word w 2) (word w 3) = sized (word w 2) (word w 3) (and-right head sizes front) in
+    let s : Sizes (word w 2) (word w 3) = sized (word w 2) (word w 3) (and-right head sizes front) in
     let t = count-within 1000000000 (word w clock-place) (not-true (beyond (pos 0) (pos 1000000000) (word w clock-place)) (and-right room timely rest)) in
     record {
       head-fits = leb-true 64 (length w) (and-left (leb 64 (length w)) (eqZ (word w 0) book-mark && eqZ (word w 1) book-version) (and-left head sizes front));
@@ -68,7 +92,7 @@ usable w e =
     }
 
 -- An opening that is not refused has sizes, and words enough.
-pub opening-fits : (w : List ℤ) (F S : ℤ) (limits : List ℤ) → opening-number w F S limits ≡ 0 → Sized F S × (book-size (toNat F) (toNat S) ≤ length w)
+pub opening-fits : (w : List ℤ) (F S : ℤ) (limits : List ℤ) → opening-number w F S limits ≡ 0 → Sizes F S × (book-size (toNat F) (toNat S) ≤ length w)
 unfolding opening-number
 opening-fits w F S limits e =
     let room = leb (book-size (toNat F) (toNat S)) (length w) in

@@ -9,17 +9,16 @@ ghost use Rattle.offer_rules.specs.Numbers.{toNat, zeros};
 ghost use Rattle.book_rules.specs.Record.{sizes-ok};
 ghost use Rattle.book_rules.specs.Words.{book-size, is-book, limits-ok, opening-number};
 ghost use Rattle.book_rules.specs.Words.{empty-facility, empty-facilities, opening-head, opened, opening-words};
+use layout::facility;
+use layout::head;
+use layout::refusal;
+use layout::time;
 use record::is_sized;
 use units::any_beyond;
 use units::copy_words;
 use units::first;
 use units::is_beyond;
 use units::nat;
-
-// "0 the mark 0x534F42; 1 version 1"
-const BOOK_MARK: i32 = 0x534F42;
-
-const BOOK_VERSION: i32 = 1;
 
 // "a limit beyond ±10,000,000"
 const LOWEST_LIMIT: i32 = -10000000;
@@ -31,7 +30,7 @@ fn book_size(facilities: usize, services: usize) -> usize
     requires { ⌜ (facilities ≤ 64) × (services ≤ 5) ⌝ }
     ensures { λ r. ⌜ (r ≡ book-size facilities services) × (r ≤ 5163200) ⌝ }
 {
-    64 + 32 * facilities + 16128 * (facilities * services)
+    head::WORDS + facility::WORDS * facilities + 16128 * (facilities * services)
 }
 
 // 20 "a limit beyond ±10,000,000, or not lowest ≤ 0 ≤ highest; 0 ≤ highest for services 1–4"
@@ -57,12 +56,13 @@ fn sizes_fit(words: usize, facilities: i32, services: i32) -> bool
 pub fn is_book(book: &[i32]) -> bool
     ensures { λ r. ⌜ r ≡ is-book (now (book .entry)) ⌝ }
 {
-    if book.len() < 64 {
+    if book.len() < head::WORDS {
         return false;
     }
-    let headed = (book[0] == BOOK_MARK) & (book[1] == BOOK_VERSION);
-    let fits = sizes_fit(book.len(), book[2], book[3]);
-    (headed & fits) & !is_beyond(0, 1000000000, book[4])
+    let headed = (book[head::MARK] == head::BOOK_MARK)
+        & (book[head::VERSION] == head::BOOK_VERSION);
+    let fits = sizes_fit(book.len(), book[head::FACILITIES], book[head::SERVICES]);
+    (headed & fits) & !is_beyond(0, time::LAST_MINUTE, book[head::CLOCK])
 }
 
 // 20 "F, S wrong, words too few", or the limits; else 0.
@@ -70,7 +70,7 @@ fn opening_number(book: &[i32], facilities: i32, services: i32, limits: [i32; 6]
     ensures { λ r. ⌜ r ≡ opening-number (now (book .entry)) facilities services limits ⌝ }
 {
     let fits = sizes_fit(book.len(), facilities, services);
-    first(!(fits & limits_ok(limits)), 20, 0)
+    first(!(fits & limits_ok(limits)), refusal::OPENING_REFUSED, 0)
 }
 
 // A loop that does nothing else, which compiles to memset: a book's cells are up to 5,160,960 words.
@@ -89,8 +89,8 @@ fn write_head(head: &mut [i32], facilities: usize, services: usize, limits: [i32
     ensures { λ _. ⌜ now (head .exit) ≡ opening-head facilities services limits ⌝ }
 {
     let leading = [
-        BOOK_MARK,
-        BOOK_VERSION,
+        head::BOOK_MARK,
+        head::BOOK_VERSION,
         facilities as i32,
         services as i32,
         0,
@@ -101,9 +101,9 @@ fn write_head(head: &mut [i32], facilities: usize, services: usize, limits: [i32
         1,
         0,
     ];
-    copy_words(&mut head[0..11], &leading);
-    copy_words(&mut head[11..17], &limits);
-    clear(&mut head[17..64]);
+    copy_words(&mut head[0..head::LIMITS], &leading);
+    copy_words(&mut head[head::LIMITS..head::LIMITS_END], &limits);
+    clear(&mut head[head::LIMITS_END..head::WORDS]);
 }
 
 // A facility of kind 0, whose outage window is 1 to 0.
@@ -112,7 +112,7 @@ fn write_facility(words: &mut [i32])
     ensures { λ _. ⌜ now (words .exit) ≡ empty-facility ⌝ }
 {
     clear(words);
-    words[17] = 1;
+    words[facility::OUTAGE] = 1;
 }
 
 fn write_facilities(words: &mut [i32], facilities: usize)
@@ -120,8 +120,8 @@ fn write_facilities(words: &mut [i32], facilities: usize)
     ensures { λ _. ⌜ now (words .exit) ≡ empty-facilities facilities ⌝ }
 {
     for f in 0..facilities {
-        let from = 32 * f;
-        let to = from + 32;
+        let from = facility::WORDS * f;
+        let to = from + facility::WORDS;
         write_facility(&mut words[from..to]);
     }
 }
@@ -131,10 +131,10 @@ fn write_words(book: &mut [i32], facilities: usize, services: usize, limits: [i3
     requires { ⌜ (facilities ≤ 64) × (services ≤ 5) × (book-size facilities services ≤ length (now book)) ⌝ }
     ensures { λ _. ⌜ now (book .exit) ≡ opened facilities services limits (drop (book-size facilities services) (now (book .entry))) ⌝ }
 {
-    let cells = 64 + 32 * facilities;
+    let cells = head::WORDS + facility::WORDS * facilities;
     let end = book_size(facilities, services);
-    write_head(&mut book[0..64], facilities, services, limits);
-    write_facilities(&mut book[64..cells], facilities);
+    write_head(&mut book[0..head::WORDS], facilities, services, limits);
+    write_facilities(&mut book[head::WORDS..cells], facilities);
     clear(&mut book[cells..end]);
 }
 

@@ -5,10 +5,9 @@ ghost use Rattle.book_rules.specs.Record.{call-of, service-of};
 ghost use Rattle.book_rules.specs.Book.{services-in, book-answer};
 ghost use Rattle.cells.specs.Meaning.{answer-of};
 ghost use Rattle.judging.specs.Tested.{Tested, Place};
-ghost use Rattle.reading.specs.Nothing.{holds-nothing};
 use cells::Answer;
-use cells::InForce;
 use cells::in_force;
+use cells::is_nothing;
 use cells::look_up;
 use cells::plain;
 use cells::total;
@@ -17,35 +16,20 @@ use judging::kind_number;
 use judging::period_number;
 use judging::services;
 use judging::wide;
+use layout::record as fields;
+use layout::refusal;
 use record::word_at;
 use refusals::first_drawn;
 use units::nat;
-
-// A record's bytes.
-const FACILITY_BYTE: usize = 6;
-
-const SERVICE_BYTE: usize = 7;
-
-const PERIOD: usize = 8;
-
-fn is_nothing(offer: InForce) -> bool
-    ensures { λ r. ⌜ r ≡ holds-nothing offer ⌝ }
-{
-    match offer {
-        InForce::Nothing => true,
-        InForce::Standing(at) => false,
-        InForce::Variation(at) => false,
-    }
-}
 
 // 5, 10 and 19; answers the offer in force.
 pub fn look_up_call(book: &[i32], bytes: &[u8]) -> Answer
     requires { ⌜ Place (now book) (now bytes) 8 ⌝ }
     ensures { λ r. ⌜ answer-of r ≡ book-answer (now (book .entry)) (now (bytes .entry)) ⌝ }
 {
-    let f = wide(bytes[FACILITY_BYTE]);
-    let service = wide(bytes[SERVICE_BYTE]);
-    let period = word_at(bytes, PERIOD);
+    let f = wide(bytes[fields::FACILITY]);
+    let service = wide(bytes[fields::SERVICE]);
+    let period = word_at(bytes, fields::PERIOD);
     let number = first_drawn(kind_number(book, f), period_number(book, period));
     if number != 0 {
         return plain(number);
@@ -59,7 +43,7 @@ pub fn look_up_call(book: &[i32], bytes: &[u8]) -> Answer
         nat(period) as usize,
     );
     if is_nothing(x) {
-        return plain(19);
+        return plain(refusal::NOTHING_IN_FORCE);
     }
     look_up(book, x)
 }
@@ -69,8 +53,8 @@ pub fn total_call(book: &[i32], bytes: &[u8]) -> Answer
     requires { ⌜ Tested (now book) (now bytes) × (call-of (now bytes) ≡ 9) × (service-of (now bytes) < services-in (now book)) ⌝ }
     ensures { λ r. ⌜ answer-of r ≡ book-answer (now (book .entry)) (now (bytes .entry)) ⌝ }
 {
-    let service = wide(bytes[SERVICE_BYTE]);
-    let period = word_at(bytes, PERIOD);
+    let service = wide(bytes[fields::SERVICE]);
+    let period = word_at(bytes, fields::PERIOD);
     let number = period_number(book, period);
     if number != 0 {
         return plain(number);

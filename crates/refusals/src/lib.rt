@@ -76,7 +76,10 @@ pub fn clock_number(clock: u64, minute: i32) -> u8
     ensures { λ r. ⌜ (r ≡ clock-number clock minute) × (r ≤ 6) ⌝ }
 {
     let earliest = clock as i32;
-    draw_if(is_beyond(earliest, time::LAST_MINUTE, minute), refusal::CLOCK_REFUSED)
+    draw_if(
+        is_beyond(earliest, time::LAST_MINUTE, minute),
+        refusal::CLOCK_REFUSED,
+    )
 }
 
 // ---- 7: outages, notices and withdrawals
@@ -166,7 +169,8 @@ fn is_mark_refused(sent: &[i32]) -> bool
     requires { ⌜ length (now sent) ≡ 17 ⌝ }
     ensures { λ r. ⌜ r ≡ marks-refused (now (sent .entry)) ⌝ }
 {
-    let generates = is_registered(sent, facility::ENERGY) | is_registered(sent, facility::REGULATION);
+    let generates = is_registered(sent, facility::ENERGY)
+        | is_registered(sent, facility::REGULATION);
     let is_load = is_word(sent, facility::KIND, facility::LOAD);
     any_beyond(sent, facility::REGISTERED, 5, 0, 1) | (is_load & generates)
 }
@@ -219,8 +223,5 @@ pub fn revision_number(clock: u64, slot: u64, held: &[i32], offer: &[i32]) -> u8
     ensures { λ r. ⌜ (r ≡ revision-number clock slot (some (now (held .entry))) (now (offer .entry))) × (r ≤ 18) ⌝ }
 {
     let gate = draw_if(standing_gate_refuses(clock, slot), refusal::GATE_CLOSED);
-    first_drawn(
-        gate,
-        draw_if(equal_words(held, offer), refusal::DUPLICATE),
-    )
+    first_drawn(gate, draw_if(equal_words(held, offer), refusal::DUPLICATE))
 }
