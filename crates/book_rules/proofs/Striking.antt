@@ -276,20 +276,26 @@ module _ (f : ℕ) where
 
 -- ---- the claims
 
-start : (f : ℕ) (w : List ℤ) (F S : ℤ) (limits : List ℤ) (six : length limits ≡ 6) (z : opening-number w F S limits ≡ 0)
-    → Beside f (toNat F) (toNat S) limits (sizes-opened w F S limits six z) (opening-words w F S limits) (opening-words w F S limits)
-start f w F S limits six z =
-    record { l = []; m = []; same = opening-same w F S limits six z; same′ = opening-same w F S limits six z; about = λ κ h. refl }
+-- Two openings for the same F, S and limits, and the look-ups for f in the runs from the words that they leave.
+module _ (w w′ : List ℤ) (F S : ℤ) (limits : List ℤ) (six : length limits ≡ 6) (z : opening-number w F S limits ≡ 0) (z′ : opening-number w′ F S limits ≡ 0)
+    (f : ℕ) (bs : List (List ℕ)) where
+  ok : sizes-ok (pos (toNat F)) (pos (toNat S)) ≡ true
+  ok = sizes-opened w F S limits six z
+
+  start : Beside f (toNat F) (toNat S) limits ok (opening-words w F S limits) (opening-words w′ F S limits)
+  start = record { l = []; m = []; same = opening-same w F S limits six z; same′ = opening-same w′ F S limits six z′; about = λ κ h. refl }
+
+  pub look-up-beside : (q : List ℕ) → is-look-up-for f q ≡ true
+      → book-answer (book-run (opening-words w′ F S limits) (struck-out f (opening-words w F S limits) bs)) q ≡ book-answer (book-run (opening-words w F S limits) bs) q
+  look-up-beside q e = beside-answers f (toNat F) (toNat S) limits ok _ _ q (runs-beside f (toNat F) (toNat S) limits ok bs _ _ start) e
+
+  pub look-ups-beside : look-ups f (opening-words w′ F S limits) (struck-out f (opening-words w F S limits) bs) ≡ accepted-look-ups f (opening-words w F S limits) bs
+  look-ups-beside = looked-up-beside f (toNat F) (toNat S) limits ok bs _ _ start
 
 pub striking-out : StrikingOut
 unfolding StrikingOut
-striking-out w F S limits six z f bs q e =
-    let ok = sizes-opened w F S limits six z in
-    let w₀ = opening-words w F S limits in
-    beside-answers f (toNat F) (toNat S) limits ok (book-run w₀ bs) (book-run w₀ (struck-out f w₀ bs)) q
-    (runs-beside f (toNat F) (toNat S) limits ok bs w₀ w₀ (start f w F S limits six z)) e
+striking-out w F S limits six z f bs = look-up-beside w w F S limits six z z f bs
 
 pub striking-out-inside : StrikingOutInside
 unfolding StrikingOutInside
-striking-out-inside w F S limits six z f bs =
-    looked-up-beside f (toNat F) (toNat S) limits (sizes-opened w F S limits six z) bs (opening-words w F S limits) (opening-words w F S limits) (start f w F S limits six z)
+striking-out-inside w F S limits six z f bs = look-ups-beside w w F S limits six z z f bs
