@@ -141,7 +141,7 @@ module _ (b : List ℕ) where
   withdrawal-keeps : call-of b ≡ 7 → (l : List (List ℕ)) (κ : Key) → κ ≢ noticeK 5 → listed (b ∷ l) κ ≡ listed l κ
   unfolding listed newest list-clock list-notice list-capability list-outage list-standing list-variation
   withdrawal-keeps e l clockK n = rw e
-  withdrawal-keeps e l (noticeK k) n = rw (e, ne-eqb k 5 (λ q. n (ap noticeK q)))
+  withdrawal-keeps e l (noticeK k) n = simp (e, ne-eqb k 5 (λ q. n (ap noticeK q)))
   withdrawal-keeps e l (capabilityK f) n = rw e
   withdrawal-keeps e l (outageK f) n = rw e
   withdrawal-keeps e l (standingK f s k) n = rw e
