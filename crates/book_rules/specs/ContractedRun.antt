@@ -48,6 +48,7 @@ EveryRun = (lent : List ℤ) (F S : ℤ) (limits : List ℤ) → length limits �
 
 -- "strike out of such a list all refused calls and all filings for other facilities": for f, and a list with the answers that its run returned.
 -- "Which calls are refused is read from the run of the whole list": from these answers' numbers, and from nothing else.
+-- A run has an answer for each record.
 unfoldable pub struck-by : ℕ → List (List ℕ) → List Answer → List (List ℕ)
 struck-by f [] answers = []
 struck-by f (b ∷ bs) [] = []
@@ -69,7 +70,7 @@ looked-up f [] answers = []
 looked-up f (b ∷ bs) [] = []
 looked-up f (b ∷ bs) (a ∷ answers) = cond (is-look-up-for f b) (a ∷ looked-up f bs answers) (looked-up f bs answers)
 
--- Those of number 0.
+-- Those of them that say 0.
 unfoldable pub accepted : List Answer → List Answer
 accepted [] = []
 accepted (a ∷ answers) = cond (eqb (a .number) 0) (a ∷ accepted answers) (accepted answers)
