@@ -1,7 +1,7 @@
 -- Demands 1 and 2: the number drawn is the lowest whose condition applies, and a refused call changes nothing.
-use mathlib.Core.Path.{_≡_, refl, sym, _∙_, ap, ap₂}
-use mathlib.Core.Logic.{_↔_, _⊎_, inl, inr, ⊎-elim}
-use mathlib.Core.Bool.{Bool, true, false, cond, not, _&&_, _||_, true≢false, false≢true}
+use mathlib.Core.Path.{_≡_, refl, sym, _∙_, ap}
+use mathlib.Core.Logic.{_⊎_, inl, inr, ⊎-elim}
+use mathlib.Core.Bool.{Bool, true, false, cond, not, _||_}
 use mathlib.Core.List.{List, [], _∷_}
 use mathlib.Core.Option.{Option, none, some}
 use Prim.Native.Nat.{ℕ, zero, suc, _+_, _≤_, _<_}
@@ -9,19 +9,19 @@ use native.Mathlib.Omega.{arith}
 use lib.Dec.{eqb}
 use lib.IntN.{ℤ}
 use lib.ListN.{getD}
-use borrow.Author.Tests.{eqb-true, eqb-false, eq-eqb, ne-eqb, not-false}
-use Rattle.offer_rules.specs.Numbers.{toNat, draw, _then_}
+use borrow.Author.Tests.{eqb-true, eqb-false, eq-eqb, ne-eqb}
+use Rattle.offer_rules.specs.Numbers.{draw, _then_}
 use Rattle.offer_rules.specs.Offer.{offer-number}
 use Rattle.offer_rules.specs.Gate.{standing-gate-refuses}
 use Rattle.offer_rules.proofs.Drawn.{then-eq, then-zero, draw-zero, then-assoc}
-use Rattle.book_rules.specs.Record.{call-of, facility-of, service-of, period-word, reason-of, offer-in, is-record, outside, has-stray, record-number}
+use Rattle.book_rules.specs.Record.{is-record, outside, has-stray, record-number}
 use Rattle.book_rules.specs.Words.{is-book}
 use Rattle.book_rules.specs.Force.{View, Answer, plain}
 use Rattle.book_rules.specs.Refusals.{judge, reply, clock-number, capability-number, facility-number, registration-number, admission-number, admitted-standing, admitted-variation, revision-number, gate-number, outage-number, notice-number, withdrawal-number, period-number, force-number, standing-number, variation-number, look-up-number, equal-words, number, answer, after}
 use Rattle.book_rules.specs.Book.{book-view, book-accept, book-answer, book-after}
-use Rattle.book_rules.specs.ByNumber.{of-held, own-held, conditions-from-5, conditions, applies}
-use Rattle.book_rules.specs.Claims.{is-accepted, RefusedChangesNothing, AcceptedExactly, LowestThatApplies}
-use Rattle.book_rules.proofs.Calls.{Which, is-clock, is-capability, is-standing, is-variation, is-outage, is-notice, is-withdrawal, is-look-up, is-total, Named, named, judge-clock, judge-capability, judge-standing, judge-variation, judge-outage, judge-notice, judge-withdrawal, judge-look-up, judge-total}
+use Rattle.book_rules.specs.ByNumber.{of-held, conditions-from-5, conditions, applies}
+use Rattle.book_rules.specs.Claims.{RefusedChangesNothing, AcceptedExactly, LowestThatApplies}
+use Rattle.book_rules.proofs.Calls.{Which, is-clock, is-capability, is-standing, is-variation, is-outage, is-notice, is-withdrawal, is-look-up, is-total, named, judge-clock, judge-capability, judge-standing, judge-variation, judge-outage, judge-notice, judge-withdrawal, judge-look-up, judge-total}
 use Rattle.book_rules.proofs.Striking.{reply-number}
 
 -- The first number from n on whose condition applies; 0 where none does.

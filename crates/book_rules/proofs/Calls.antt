@@ -1,17 +1,16 @@
 -- Which of the nine calls a record is, and what its fields then are held to.
-use mathlib.Core.Path.{_≡_, refl, sym, _∙_, ap}
-use mathlib.Core.Bool.{Bool, true, false, cond, not, _&&_, _||_}
-use mathlib.Core.List.{List, [], _∷_}
+use mathlib.Core.Path.{_≡_, refl, ap}
+use mathlib.Core.Bool.{Bool, true, false, not, _&&_}
+use mathlib.Core.List.{List}
 use Prim.Native.Nat.{ℕ, zero, suc, _+_, _≤_, _<_}
 use native.Mathlib.Omega.{arith}
 use lib.Dec.{leb, eqb}
-use lib.IntN.{ℤ, pos}
 use lib.ListN.{length}
 use borrow.Author.Tests.{leb-true, leb-false, not-false}
-use Rattle.offer_rules.specs.Numbers.{toNat, draw, _then_}
+use Rattle.offer_rules.specs.Numbers.{toNat, _then_}
 use Rattle.offer_rules.proofs.Drawn.{and-left, and-right, or-left, or-right, then-zero, draw-zero}
-use Rattle.book_rules.specs.Record.{byte, call-of, facility-of, service-of, period-word, reason-of, word-A, word-B, capability-in, offer-in, between, used, used-by-offer, uses, is-record, outside, has-stray, record-number, words-at}
-use Rattle.book_rules.specs.Force.{View, Answer, plain}
+use Rattle.book_rules.specs.Record.{byte, call-of, facility-of, service-of, period-word, reason-of, word-A, word-B, capability-in, offer-in, between, used, uses, is-record, outside, record-number, words-at}
+use Rattle.book_rules.specs.Force.{View, plain}
 use Rattle.book_rules.specs.Refusals.{judge, reply, clock-number, capability-number, standing-number, variation-number, facility-number, outage-number, notice-number, withdrawal-number, look-up-number, period-number, look-up-reply, total-reply}
 
 pub data Which (b : List ℕ) : Type 0 where

@@ -1,25 +1,25 @@
 -- A book and a list that show the same answer every record alike, and show the same after it; so for every list of records.
 use mathlib.Core.Path.{_≡_, refl, sym, _∙_, ap, ap₂}
-use mathlib.Core.Bool.{Bool, true, false, cond, not, _&&_, true≢false, false≢true}
+use mathlib.Core.Bool.{Bool, true, false, cond, true≢false, false≢true}
 use mathlib.Core.List.{List, [], _∷_}
 use Prim.Native.Nat.{ℕ, _≤_}
 use native.Mathlib.Omega.{arith}
-use lib.Dec.{leb, eqb}
+use lib.Dec.{eqb}
 use lib.IntN.{ℤ, pos}
 use lib.ListN.{length}
-use borrow.Author.Tests.{eqb-true, eq-eqb, le-leb}
-use Rattle.offer_rules.specs.Numbers.{toNat, _then_}
+use borrow.Author.Tests.{eqb-true, le-leb}
+use Rattle.offer_rules.specs.Numbers.{toNat}
 use Rattle.offer_rules.proofs.Drawn.{then-eq, then-zero}
 use Rattle.book_rules.specs.Record.{record-number, sizes-ok}
 use Rattle.book_rules.specs.Words.{book-size, is-book, opening-words}
-use Rattle.book_rules.specs.Force.{View, Answer, plain}
-use Rattle.book_rules.specs.Refusals.{judge, reply, number, answer, after}
+use Rattle.book_rules.specs.Force.{Answer, plain}
+use Rattle.book_rules.specs.Refusals.{judge, number, answer, after}
 use Rattle.book_rules.specs.Book.{book-view, book-accept, book-answer, book-after, book-answers}
 use Rattle.book_rules.specs.ListMachine.{list-view, list-accept, list-answer, list-after, list-answers}
 use Rattle.book_rules.specs.Claims.{EveryList}
 use Rattle.book_rules.proofs.Calls.{Named, named}
-use Rattle.book_rules.proofs.Rules.{Agree, judge-same, reply-same}
-use Rattle.book_rules.proofs.Same.{Same, Everyone, facilities-is, services-is, clock-is, agree, accept-same}
+use Rattle.book_rules.proofs.Rules.{judge-same, reply-same}
+use Rattle.book_rules.proofs.Same.{Same, Everyone, clock-is, agree, accept-same}
 use Rattle.book_rules.proofs.Opening.{opening-same, sizes-opened}
 
 -- The same test on both sides: related where it passes and where it fails.

@@ -1,17 +1,15 @@
 -- What each accepted call files, in the book's words and in the list: the same thing under the same key, and nothing under any other.
 use mathlib.Core.Path.{_≡_, refl, sym, _∙_, ap}
 use mathlib.Core.Logic.{_≢_, _⊎_, inl, inr}
-use mathlib.Core.Bool.{Bool, true, false, cond, _&&_}
+use mathlib.Core.Bool.{Bool, true, false, _&&_}
 use mathlib.Core.List.{List, [], _∷_}
 use mathlib.Core.Option.{Option, none, some}
-use Prim.Native.Nat.{ℕ, zero, suc, _+_}
-use native.Mathlib.Omega.{arith}
+use Prim.Native.Nat.{ℕ, suc}
 use lib.Dec.{eqb}
 use lib.IntN.{ℤ, pos}
 use lib.ListN.{length}
 use borrow.Author.Tests.{eq-eqb, ne-eqb, eqb-true}
 use Rattle.offer_rules.specs.Numbers.{toNat}
-use Rattle.offer_rules.specs.Time.{slot-of}
 use Rattle.offer_rules.specs.Gate.{Window}
 use Rattle.book_rules.specs.Record.{call-of, facility-of, service-of, period-word, reason-of, word-A, word-B, capability-in, offer-in}
 use Rattle.book_rules.specs.Words.{put, cell, standing-stamp, variation-stamp}
@@ -141,7 +139,7 @@ module _ (b : List ℕ) where
   withdrawal-keeps : call-of b ≡ 7 → (l : List (List ℕ)) (κ : Key) → κ ≢ noticeK 5 → listed (b ∷ l) κ ≡ listed l κ
   unfolding listed newest list-clock list-notice list-capability list-outage list-standing list-variation
   withdrawal-keeps e l clockK n = rw e
-  withdrawal-keeps e l (noticeK k) n = rw (e, ne-eqb k 5 (λ q. n (ap noticeK q)))
+  withdrawal-keeps e l (noticeK k) n = simp (e, ne-eqb k 5 (λ q. n (ap noticeK q)))
   withdrawal-keeps e l (capabilityK f) n = rw e
   withdrawal-keeps e l (outageK f) n = rw e
   withdrawal-keeps e l (standingK f s k) n = rw e

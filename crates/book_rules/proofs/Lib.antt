@@ -1,4 +1,4 @@
--- Proofs of the claims in specs/Claims, from the bottom up.
+-- Proofs of the claims in specs/Claims and specs/ContractedRun, from the bottom up.
 pub mod Parts
 pub mod Calls
 pub mod Rules
@@ -8,5 +8,6 @@ pub mod Same
 pub mod Opening
 pub mod EveryCall
 pub mod Striking
+pub mod EveryRun
 pub mod ByNumber
 pub mod OneCall

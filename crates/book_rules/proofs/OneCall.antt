@@ -1,16 +1,16 @@
 -- One call on a usable book by a record that passes 2, 3 and 4: what it answers and leaves, call by call. The code's proofs cite these.
-use mathlib.Core.Path.{_≡_, refl, sym, _∙_, ap}
-use mathlib.Core.Bool.{Bool, true, false, cond}
+use mathlib.Core.Path.{_≡_, _∙_}
+use mathlib.Core.Bool.{true, false, cond}
 use mathlib.Core.List.{List, [], _∷_}
-use Prim.Native.Nat.{ℕ, zero, suc, _≤_}
+use Prim.Native.Nat.{ℕ, _≤_}
 use native.Mathlib.Omega.{arith}
 use lib.Dec.{eqb}
 use lib.IntN.{ℤ, pos}
-use borrow.Author.Tests.{eqb-true, eq-eqb, ne-eqb}
+use borrow.Author.Tests.{ne-eqb}
 use Rattle.offer_rules.specs.Numbers.{toNat, _then_}
 use Rattle.book_rules.specs.Record.{call-of, facility-of, service-of, period-word, reason-of, word-A, word-B, capability-in, offer-in, record-number}
 use Rattle.book_rules.specs.Words.{put, clock-place, notice-place, facility-place, outage-place, is-book}
-use Rattle.book_rules.specs.Force.{View, Answer, plain}
+use Rattle.book_rules.specs.Force.{plain}
 use Rattle.book_rules.specs.Refusals.{judge, reply, number, answer, after}
 use Rattle.book_rules.specs.Book.{facilities-in, services-in, outage-words, file-standing, file-variation, book-view, book-accept, book-answer, book-after}
 use Rattle.book_rules.proofs.Calls.{reply-plain}

@@ -1,21 +1,19 @@
 -- A book freshly opened shows what an empty list shows.
 use mathlib.Core.Path.{_≡_, refl, sym, _∙_, ap, ap₂}
-use mathlib.Core.Bool.{Bool, true, false, cond, not, _&&_, true≢false}
+use mathlib.Core.Bool.{true, false, _&&_, true≢false}
 use mathlib.Core.List.{List, [], _∷_, _++_, append-assoc}
-use mathlib.Core.Option.{Option, none, some}
 use Prim.Native.Nat.{ℕ, zero, suc, _+_, _*_, _-_, _≤_, _<_}
 use native.Mathlib.Omega.{arith}
-use lib.Dec.{leb, eqb}
+use lib.Dec.{leb}
 use lib.IntN.{ℤ, pos, negsuc}
 use lib.ListN.{length, getD, take, drop, replicate, length-replicate, length-append, length-drop, List·getD-append}
-use lib.Seq.{take-at, drop-at, drop-append-add, drop-append-le, take-append-le, getD-append-add, getD-take, getD-drop}
+use lib.Seq.{take-at, drop-append-add, drop-append-le, take-append-le, getD-append-add, getD-take, getD-drop}
 use borrow.Author.Tests.{not-false}
-use Rattle.offer_rules.specs.Numbers.{toNat, word, beyond, draw, zeros}
-use Rattle.offer_rules.specs.Time.{slots, slot-of}
+use Rattle.offer_rules.specs.Numbers.{toNat, word, zeros}
+use Rattle.offer_rules.specs.Time.{slot-of}
 use Rattle.offer_rules.proofs.Drawn.{and-left, and-right, draw-zero}
 use Rattle.book_rules.specs.Record.{sizes-ok}
-use Rattle.book_rules.specs.Words.{part, book-size, book-mark, book-version, limits-place, cell-place, standing-half, variation-half, variation-stamp, empty-facility, empty-facilities, opening-head, opened, opening-number, opening-words, limits-ok}
-use Rattle.book_rules.specs.Book.{held}
+use Rattle.book_rules.specs.Words.{part, book-size, limits-place, cell-place, standing-half, variation-half, variation-stamp, empty-facility, empty-facilities, opening-head, opened, opening-number, opening-words, limits-ok}
 use Rattle.book_rules.specs.ListMachine.{newest, list-clock, list-capability, list-outage, list-notice, list-standing, list-variation}
 use Rattle.book_rules.proofs.Places.{Key, clockK, noticeK, capabilityK, outageK, standingK, variationK, place, width, Valid, cell-inside}
 use Rattle.book_rules.proofs.Filings.{window-words, offer-words, listed, shown}

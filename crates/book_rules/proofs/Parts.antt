@@ -1,11 +1,11 @@
 -- What putting words into a book does to the reads of its words and parts.
-use mathlib.Core.Path.{_≡_, refl, sym, _∙_, ap}
+use mathlib.Core.Path.{_≡_, refl, _∙_, ap}
 use mathlib.Core.List.{List, [], _∷_, _++_}
 use Prim.Native.Nat.{ℕ, zero, suc, _+_, _-_, _≤_, _<_}
 use native.Mathlib.Omega.{arith}
 use native.Mathlib.Decide.{decLe}
 use lib.IntN.{ℤ, pos}
-use lib.ListN.{length, getD, take, drop, length-append, length-take, length-drop, List·getD-append}
+use lib.ListN.{length, take, drop, length-append, length-take, length-drop, List·getD-append}
 use lib.Seq.{take-at, drop-at, take-append-le, drop-append-le, drop-append-add, length-take-le, take-take, drop-drop, getD-take, getD-drop}
 use Rattle.offer_rules.specs.Numbers.{word}
 use Rattle.book_rules.specs.Words.{part, put}

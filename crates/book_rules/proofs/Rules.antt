@@ -1,21 +1,20 @@
 -- Two states that show the same where the rules look draw the same number and give the same answer.
 use mathlib.Core.Path.{_≡_, refl, sym, _∙_, ap, ap₂}
-use mathlib.Core.Bool.{Bool, true, false, cond, not}
-use mathlib.Core.List.{List, [], _∷_}
-use mathlib.Core.Option.{Option, none, some}
-use Prim.Native.Nat.{ℕ, zero, suc, _+_, _*_, _%_, _≤_, _<_}
+use mathlib.Core.Bool.{Bool, true, false}
+use mathlib.Core.List.{List}
+use mathlib.Core.Option.{Option}
+use Prim.Native.Nat.{ℕ, zero, suc, _+_, _≤_, _<_}
 use native.Mathlib.Omega.{arith}
 use lib.Dec.{eqb}
 use lib.IntN.{ℤ, pos, _+ℤ_}
-use borrow.Author.Tests.{eqb-true}
-use Rattle.offer_rules.specs.Numbers.{toNat, draw, _then_}
+use Rattle.offer_rules.specs.Numbers.{toNat, _then_}
 use Rattle.offer_rules.specs.Time.{slots, slot-of, start-of, horizon-end, slot-refused, period-refused}
 use Rattle.offer_rules.specs.Offer.{offer-number, kind-of}
-use Rattle.offer_rules.specs.Gate.{Window, Grounds}
+use Rattle.offer_rules.specs.Gate.{Grounds}
 use Rattle.offer_rules.proofs.Drawn.{then-eq, then-zero, draw-zero}
 use Rattle.offer_rules.proofs.Periods.{slot-is, period-is}
-use Rattle.book_rules.specs.Record.{call-of, facility-of, service-of, period-word, reason-of, word-A, word-B, capability-in, offer-in, uses, record-number}
-use Rattle.book_rules.specs.Force.{View, InForce, first-of, in-force, counted, offered, count-in-force, sum-in-force, Answer, plain, found, totalled}
+use Rattle.book_rules.specs.Record.{call-of, facility-of, service-of, period-word, reason-of, word-A, word-B, capability-in, offer-in, uses}
+use Rattle.book_rules.specs.Force.{View, InForce, first-of, in-force, counted, offered, count-in-force, sum-in-force, found, totalled}
 use Rattle.book_rules.specs.Refusals.{clock-number, capability-number, facility-number, admission-number, admitted-standing, admitted-variation, revision-number, grounds, gate-number, period-number, force-number, standing-number, variation-number, look-up-number, outage-number, judge, reply, look-up-reply, total-reply}
 use Rattle.book_rules.proofs.Calls.{Which, is-clock, is-capability, is-standing, is-variation, is-outage, is-notice, is-withdrawal, is-look-up, is-total, Named, judge-clock, judge-capability, judge-standing, judge-variation, judge-outage, judge-notice, judge-withdrawal, judge-look-up, judge-total, reply-look-up, reply-total, reply-plain, capability-uses, standing-uses, variation-uses, outage-uses, look-up-uses, total-uses}
 

@@ -1,28 +1,27 @@
 -- A book's words and a list of accepted calls that show the same, and that every accepted call keeps them so.
 use mathlib.Core.Path.{_≡_, refl, sym, _∙_, ap, ap₂, subst}
 use mathlib.Core.Logic.{_≢_}
-use mathlib.Core.Bool.{Bool, true, false, cond, not, _&&_, _||_, true≢false}
+use mathlib.Core.Bool.{Bool, true, false, not, _&&_, true≢false}
 use mathlib.Core.List.{List, [], _∷_}
 use mathlib.Core.Option.{Option, none, some}
-use Prim.Native.Nat.{ℕ, zero, suc, _+_, _*_, _≤_, _<_}
+use Prim.Native.Nat.{ℕ, _+_, _≤_, _<_}
 use native.Mathlib.Omega.{arith}
 use native.Mathlib.Decide.{ℕ-discrete}
-use lib.Dec.{leb, ltb, eqb}
+use lib.Dec.{leb}
 use lib.IntN.{ℤ, pos, negsuc}
 use lib.Signed.{leZ}
-use lib.ListN.{length, drop}
-use borrow.Author.Tests.{ltb-false, leb-true, ne-eqb, le-ltb, not-false}
-use Rattle.offer_rules.specs.Numbers.{eqZ, toNat, word, beyond, draw, _then_}
-use Rattle.offer_rules.specs.Time.{slots, slot-of, start-of, horizon-end}
+use lib.ListN.{length}
+use borrow.Author.Tests.{leb-true, ne-eqb, le-ltb, not-false}
+use Rattle.offer_rules.specs.Numbers.{toNat, word, beyond}
+use Rattle.offer_rules.specs.Time.{slot-of, start-of, horizon-end}
 use Rattle.offer_rules.specs.Gate.{Window}
-use Rattle.offer_rules.proofs.Drawn.{and-left, and-right, or-left, or-right, then-zero, draw-zero}
+use Rattle.offer_rules.proofs.Drawn.{and-left, and-right, or-left, draw-zero}
 use Rattle.offer_rules.proofs.Periods.{within, one-of-a-slot}
-use Rattle.book_rules.specs.Record.{call-of, facility-of, service-of, period-word, reason-of, word-A, word-B, capability-in, offer-in, between, uses}
-use Rattle.book_rules.specs.Words.{part, put, book-size, book-mark, book-version, clock-place, notice-place, limits-place, facility-place, outage-place, cell-place, standing-half, variation-half, cell, standing-stamp, variation-stamp}
-use Rattle.book_rules.specs.Force.{View}
-use Rattle.book_rules.specs.Refusals.{judge, clock-number, notice-number, standing-number, variation-number}
+use Rattle.book_rules.specs.Record.{facility-of, service-of, period-word, reason-of, word-A, word-B, capability-in, offer-in, between}
+use Rattle.book_rules.specs.Words.{part, put, book-size, book-mark, book-version, clock-place, limits-place, cell-place, standing-half, variation-half, cell, standing-stamp, variation-stamp}
+use Rattle.book_rules.specs.Refusals.{judge, clock-number, notice-number}
 use Rattle.book_rules.specs.Book.{facilities-in, services-in, window-in, held, book-view, book-accept}
-use Rattle.book_rules.specs.ListMachine.{list-clock, list-view, list-notice, list-outage, list-standing, list-variation}
+use Rattle.book_rules.specs.ListMachine.{list-clock, list-view}
 use Rattle.book_rules.proofs.Parts.{length-put, part-put, part-apart, word-before, word-of-part}
 use Rattle.book_rules.proofs.Calls.{Which, is-clock, is-capability, is-standing, is-variation, is-outage, is-notice, is-withdrawal, is-look-up, is-total, Named, judge-clock, judge-standing, judge-variation, judge-notice, capability-uses, standing-uses, variation-uses, outage-uses}
 use Rattle.book_rules.proofs.Places.{Key, clockK, noticeK, capabilityK, outageK, standingK, variationK, Key-discrete, place, width, spot, Valid, place-inside, place-late, limits-apart, places-apart, TwoPeriods, two-periods}

@@ -1,25 +1,25 @@
 -- Refused calls, and filings for other facilities, change no look-up for a facility.
 use mathlib.Core.Path.{_≡_, refl, sym, _∙_, ap, ap₂, subst}
 use mathlib.Core.Logic.{_≢_}
-use mathlib.Core.Bool.{Bool, true, false, cond, not, _&&_, true≢false, false≢true}
+use mathlib.Core.Bool.{Bool, true, false, cond, not, _&&_, true≢false}
 use mathlib.Core.List.{List, [], _∷_}
-use Prim.Native.Nat.{ℕ, zero, suc, _≤_, _<_}
+use Prim.Native.Nat.{ℕ, suc}
 use native.Mathlib.Omega.{arith}
 use native.Mathlib.Decide.{ℕ-discrete}
-use lib.Dec.{leb, eqb}
+use lib.Dec.{eqb}
 use lib.IntN.{ℤ, pos}
 use lib.ListN.{length}
-use borrow.Author.Tests.{eqb-true, eqb-false, eq-eqb, not-true, not-false}
-use Rattle.offer_rules.specs.Numbers.{toNat, word, _then_}
+use borrow.Author.Tests.{eqb-true, eqb-false, not-true, not-false}
+use Rattle.offer_rules.specs.Numbers.{toNat, word}
 use Rattle.offer_rules.proofs.Drawn.{and-left, and-right, then-eq, then-zero}
-use Rattle.book_rules.specs.Record.{call-of, facility-of, service-of, period-word, word-A, word-B, reason-of, capability-in, offer-in, between, used, uses, record-number, sizes-ok}
-use Rattle.book_rules.specs.Words.{opening-words, opening-number, cell, standing-stamp, variation-stamp}
+use Rattle.book_rules.specs.Record.{call-of, facility-of, service-of, period-word, reason-of, offer-in, between, used, uses, sizes-ok}
+use Rattle.book_rules.specs.Words.{opening-words, opening-number}
 use Rattle.book_rules.specs.Force.{View, Answer, plain, found, totalled}
 use Rattle.book_rules.specs.Refusals.{judge, reply, look-up-reply, total-reply, number, answer, after}
 use Rattle.book_rules.specs.Book.{book-answer, book-after, book-run}
-use Rattle.book_rules.specs.ListMachine.{list-view, list-accept, list-answer, list-after, list-clock}
+use Rattle.book_rules.specs.ListMachine.{list-view, list-answer, list-after}
 use Rattle.book_rules.specs.Claims.{is-others-filing, is-look-up-for, is-accepted, struck-out, look-ups, accepted-look-ups, StrikingOut, StrikingOutInside}
-use Rattle.book_rules.proofs.Calls.{Which, is-clock, is-capability, is-standing, is-variation, is-outage, is-notice, is-withdrawal, is-look-up, is-total, Named, named, judge-standing, judge-variation}
+use Rattle.book_rules.proofs.Calls.{Which, is-clock, is-capability, is-standing, is-variation, is-outage, is-notice, is-withdrawal, is-look-up, is-total, named, judge-standing, judge-variation}
 use Rattle.book_rules.proofs.Places.{Key, clockK, noticeK, capabilityK, outageK, standingK, variationK, Key-discrete}
 use Rattle.book_rules.proofs.Filings.{listed, Files, FilesNothing, clock-files, capability-files, standing-files, variation-files, outage-files, notice-files, withdrawal-files, look-up-files, total-files}
 use Rattle.book_rules.proofs.Rules.{Agree, judge-same, look-up-same, standing-accepted, variation-accepted}
@@ -276,20 +276,26 @@ module _ (f : ℕ) where
 
 -- ---- the claims
 
-start : (f : ℕ) (w : List ℤ) (F S : ℤ) (limits : List ℤ) (six : length limits ≡ 6) (z : opening-number w F S limits ≡ 0)
-    → Beside f (toNat F) (toNat S) limits (sizes-opened w F S limits six z) (opening-words w F S limits) (opening-words w F S limits)
-start f w F S limits six z =
-    record { l = []; m = []; same = opening-same w F S limits six z; same′ = opening-same w F S limits six z; about = λ κ h. refl }
+-- Two openings for the same F, S and limits, and the look-ups for f in the runs from the words that they leave.
+module _ (w w′ : List ℤ) (F S : ℤ) (limits : List ℤ) (six : length limits ≡ 6) (z : opening-number w F S limits ≡ 0) (z′ : opening-number w′ F S limits ≡ 0)
+    (f : ℕ) (bs : List (List ℕ)) where
+  ok : sizes-ok (pos (toNat F)) (pos (toNat S)) ≡ true
+  ok = sizes-opened w F S limits six z
+
+  start : Beside f (toNat F) (toNat S) limits ok (opening-words w F S limits) (opening-words w′ F S limits)
+  start = record { l = []; m = []; same = opening-same w F S limits six z; same′ = opening-same w′ F S limits six z′; about = λ κ h. refl }
+
+  pub look-up-beside : (q : List ℕ) → is-look-up-for f q ≡ true
+      → book-answer (book-run (opening-words w′ F S limits) (struck-out f (opening-words w F S limits) bs)) q ≡ book-answer (book-run (opening-words w F S limits) bs) q
+  look-up-beside q e = beside-answers f (toNat F) (toNat S) limits ok _ _ q (runs-beside f (toNat F) (toNat S) limits ok bs _ _ start) e
+
+  pub look-ups-beside : look-ups f (opening-words w′ F S limits) (struck-out f (opening-words w F S limits) bs) ≡ accepted-look-ups f (opening-words w F S limits) bs
+  look-ups-beside = looked-up-beside f (toNat F) (toNat S) limits ok bs _ _ start
 
 pub striking-out : StrikingOut
 unfolding StrikingOut
-striking-out w F S limits six z f bs q e =
-    let ok = sizes-opened w F S limits six z in
-    let w₀ = opening-words w F S limits in
-    beside-answers f (toNat F) (toNat S) limits ok (book-run w₀ bs) (book-run w₀ (struck-out f w₀ bs)) q
-    (runs-beside f (toNat F) (toNat S) limits ok bs w₀ w₀ (start f w F S limits six z)) e
+striking-out w F S limits six z f bs = look-up-beside w w F S limits six z z f bs
 
 pub striking-out-inside : StrikingOutInside
 unfolding StrikingOutInside
-striking-out-inside w F S limits six z f bs =
-    looked-up-beside f (toNat F) (toNat S) limits (sizes-opened w F S limits six z) bs (opening-words w F S limits) (opening-words w F S limits) (start f w F S limits six z)
+striking-out-inside w F S limits six z f bs = look-ups-beside w w F S limits six z z f bs

@@ -1,5 +1,5 @@
 -- The book as document 01's words have it: what they show, what an accepted call writes, and what every call answers and leaves.
-use mathlib.Core.Bool.{Bool, cond}
+use mathlib.Core.Bool.{cond}
 use mathlib.Core.List.{List, [], _∷_}
 use mathlib.Core.Option.{Option, none, some}
 use Prim.Native.Nat.{ℕ}

@@ -1,6 +1,6 @@
 -- Document 01, "Who draws which number", number by number: the condition of each, on the calls that it names.
 -- Demand 2 speaks of this list; the order in which a call is tested is in Refusals.
-use mathlib.Core.Bool.{Bool, true, false, cond, not, _&&_, _||_}
+use mathlib.Core.Bool.{Bool, false, cond, not, _&&_, _||_}
 use mathlib.Core.List.{List, [], _∷_}
 use mathlib.Core.Option.{Option, none, some}
 use Prim.Native.Nat.{ℕ, zero, suc}

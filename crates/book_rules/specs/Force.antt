@@ -1,5 +1,4 @@
 -- Document 01, "Offer in force": what a state shows to the rules, the offer in force, and answers.
-use mathlib.Core.Bool.{Bool}
 use mathlib.Core.List.{List, [], _∷_}
 use mathlib.Core.Option.{Option, none, some}
 use Prim.Native.Nat.{ℕ, zero, suc, _+_, _/_}

@@ -7,3 +7,4 @@ pub mod Book
 pub mod ListMachine
 pub mod ByNumber
 pub mod Claims
+pub mod ContractedRun

@@ -1,6 +1,6 @@
 -- Document 01, "The list machine". It has no table: nothing here names a cell, a stamp or a place.
 -- "State: the opening's F, S and limits, and the list of accepted calls, newest first."
-use mathlib.Core.Bool.{Bool, true, false, cond, _&&_}
+use mathlib.Core.Bool.{Bool, cond, _&&_}
 use mathlib.Core.List.{List, [], _∷_}
 use mathlib.Core.Option.{Option, none, some}
 use Prim.Native.Nat.{ℕ}

@@ -1,5 +1,5 @@
 -- Document 01, "The record", and the test of it that the gateway calls ("Parts"): refusals 2, 3 and 4.
-use mathlib.Core.Bool.{Bool, true, false, cond, not, _&&_, _||_}
+use mathlib.Core.Bool.{Bool, false, cond, not, _&&_, _||_}
 use mathlib.Core.List.{List, [], _∷_}
 use Prim.Native.Nat.{ℕ, zero, suc, _+_, _*_, _-_}
 use lib.Dec.{leb, ltb, eqb}

@@ -3,14 +3,14 @@
 use mathlib.Core.Bool.{Bool, true, false, cond, not, _&&_, _||_}
 use mathlib.Core.List.{List, [], _∷_}
 use mathlib.Core.Option.{Option, none, some}
-use Prim.Native.Nat.{ℕ, zero, suc, _+_, _/_}
-use lib.Dec.{leb, eqb}
+use Prim.Native.Nat.{ℕ}
+use lib.Dec.{eqb}
 use lib.IntN.{ℤ, pos}
 use lib.Signed.{leZ}
-use Rattle.offer_rules.specs.Numbers.{eqZ, toNat, word, beyond, any-beyond, draw, _then_}
+use Rattle.offer_rules.specs.Numbers.{eqZ, toNat, beyond, any-beyond, draw, _then_}
 use Rattle.offer_rules.specs.Time.{slot-refused, period-refused}
 use Rattle.offer_rules.specs.Offer.{kind-of, is-load, is-kind, mark-for, pairs, offer-number}
-use Rattle.offer_rules.specs.Gate.{Window, Grounds, gate-refuses, standing-gate-refuses}
+use Rattle.offer_rules.specs.Gate.{Grounds, gate-refuses, standing-gate-refuses}
 use Rattle.book_rules.specs.Record.{call-of, facility-of, service-of, period-word, reason-of, word-A, word-B, capability-in, offer-in, between, record-number}
 use Rattle.book_rules.specs.Force.{View, InForce, in-force, pairs-of, counted, count-in-force, sum-in-force, Answer, plain, found, totalled}
 

@@ -2,4 +2,3 @@
 pub mod OneMoreRecord
 pub mod StoredNumbers
 pub mod AnswerWidth
-pub mod EveryRun

@@ -1,3 +1,2 @@
--- What a list of records answered in one go promises, and what a run of calls promises by their contracts.
+-- What a list of records answered in one go promises.
 pub mod ListAnswered
-pub mod ContractedRun

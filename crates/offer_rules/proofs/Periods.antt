@@ -1,10 +1,10 @@
 -- Periods that may be filed for, and the periods of one slot.
-use mathlib.Core.Path.{_≡_, refl, sym, _∙_, ap}
+use mathlib.Core.Path.{_≡_, refl}
 use mathlib.Core.Logic.{_≢_}
-use mathlib.Core.Bool.{Bool, true, false, _||_, true≢false}
-use Prim.Native.Nat.{ℕ, zero, suc, _+_, _*_, _-_, _/_, _%_, _≤_, _<_}
+use mathlib.Core.Bool.{false, true≢false}
+use Prim.Native.Nat.{ℕ, _≤_, _<_}
 use native.Mathlib.Omega.{arith}
-use lib.Dec.{leb, ltb}
+use lib.Dec.{ltb}
 use lib.IntN.{ℤ, pos, negsuc}
 use borrow.Author.Tests.{leb-false, ltb-false}
 use Rattle.offer_rules.specs.Numbers.{toNat, beyond}

@@ -1,19 +1,16 @@
 use mathlib.Core.Path.{_≡_, _∙_}
-use mathlib.Core.List.{_++_}
-use Prim.Native.Nat.{_≤_, _-_}
+use Prim.Native.Nat.{_-_}
 use native.Mathlib.Omega.{arith}
 use lib.IntN.{pos}
-use lib.ListN.{length, take, drop, getD, length-set}
-use mir.Syntax.{w64}
-use mir.Facts.{toZ-ofZ}
-use borrow.Author.Needs.{needs, sfits-of}
-use Rattle.units.proofs.Counts.{word-back}
-use Rattle.units.proofs.Copying.{copy-more, copied-all}
+use lib.ListN.{length, getD}
+use borrow.Author.Needs.{needs}
+use Rattle.units.proofs.Counts.{word-back, long-back}
+use Rattle.units.proofs.Copying.{Copied, copy-more, copied-all}
 use Rattle.listed.proofs.write_words.Statement.{statement}
 use Rattle.listed.proofs.write_words.Tie as tie
 
 abbrev Inv-loop : tie.InvT-loop
-Inv-loop out₀ words n i₀ out i = (out ≡ take i words ++ drop i out₀) × (length out ≡ length out₀) × (i ≤ n) × (n ≡ length words)
+Inv-loop out₀ words n i₀ out i = Copied words out₀ i out × (n ≡ length words)
 
 abbrev μ-loop : tie.MeasureT-loop
 μ-loop out₀ words n i₀ out i = n - i
@@ -45,26 +42,15 @@ loop-less c = search needs
 loop-again : tie.Need-loop-again Inv-loop μ-loop
 loop-again c =
     let l = c .before .before .before .loop in
-    let s = c .before .before .before .before in
-    let words = s .args .words .now in
-    let out = s .args .out .now in
-    let pre : length out ≡ length words = s .pre in (
-      rw (toZ-ofZ {w = w64} (sfits-of (c .long .ok)), c .long .ensures, word-back (getD words (l .i) (pos 0)) (c .before .long-arg .given), l .inv .0)
-          (copy-more words out (l .i) (pos 0) (omega arith) (omega arith)),
-      simp length-set (l .inv .1),
-      search needs,
-      search needs,
-    )
+    let words = c .before .before .before .before .args .words .now in
+    let word = word-back (getD words (l .i) (pos 0)) (c .before .long-arg .given) in
+    (copy-more (pos 0) _ (l .inv .0) (omega arith) (long-back (c .long .result) (c .long .ok) ∙ c .long .ensures ∙ word), l .inv .1)
 
 same-length : tie.Need-same-length Inv-loop μ-loop
 same-length c = omega arith
 
 returns : tie.Need-returns Inv-loop μ-loop
-returns c =
-    let l = c .before .loop in
-    let s = c .before .before in
-    let pre : length (s .args .out .now) ≡ length (s .args .words .now) = s .pre in
-    l .inv .0 ∙ copied-all (s .args .words .now) (s .args .out .now) (l .i) (omega arith) (omega arith)
+returns c = copied-all (c .before .loop .inv .0) (omega arith)
 
 pub write-words-spec : {M : Type 1} → statement M
 write-words-spec =

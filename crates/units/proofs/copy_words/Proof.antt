@@ -1,17 +1,16 @@
-use mathlib.Core.Path.{_≡_, _∙_}
-use mathlib.Core.List.{_++_}
-use Prim.Native.Nat.{_≤_, _-_}
+use mathlib.Core.Path.{_≡_}
+use Prim.Native.Nat.{_-_}
 use native.Mathlib.Omega.{arith}
 use lib.IntN.{pos}
-use lib.ListN.{length, take, drop, getD, length-set}
+use lib.ListN.{length, getD}
 use borrow.Author.Needs.{needs}
 use Rattle.units.proofs.Counts.{word-back}
-use Rattle.units.proofs.Copying.{copy-more, copied-all}
+use Rattle.units.proofs.Copying.{Copied, copy-more, copied-all}
 use Rattle.units.proofs.copy_words.Statement.{statement}
 use Rattle.units.proofs.copy_words.Tie as tie
 
 abbrev Inv-loop : tie.InvT-loop
-Inv-loop to₀ from n i₀ to i = (to ≡ take i from ++ drop i to₀) × (length to ≡ length to₀) × (i ≤ n) × (n ≡ length from)
+Inv-loop to₀ from n i₀ to i = Copied from to₀ i to × (n ≡ length from)
 
 abbrev μ-loop : tie.MeasureT-loop
 μ-loop to₀ from n i₀ to i = n - i
@@ -40,25 +39,14 @@ loop-less c = search needs
 loop-again : tie.Need-loop-again Inv-loop μ-loop
 loop-again c =
     let l = c .before .before .loop in
-    let s = c .before .before .before in
-    let from = s .args .from .now in
-    let to = s .args .to .now in
-    let pre : length to ≡ length from = s .pre in (
-      rw (word-back (getD from (l .i) (pos 0)) (c .to .given), l .inv .0) (copy-more from to (l .i) (pos 0) (omega arith) (omega arith)),
-      simp length-set (l .inv .1),
-      search needs,
-      search needs,
-    )
+    let from = c .before .before .before .args .from .now in
+    (copy-more (pos 0) _ (l .inv .0) (omega arith) (word-back (getD from (l .i) (pos 0)) (c .to .given)), l .inv .1)
 
 same-length : tie.Need-same-length Inv-loop μ-loop
 same-length c = omega arith
 
 returns : tie.Need-returns Inv-loop μ-loop
-returns c =
-    let l = c .before .loop in
-    let s = c .before .before in
-    let pre : length (s .args .to .now) ≡ length (s .args .from .now) = s .pre in
-    l .inv .0 ∙ copied-all (s .args .from .now) (s .args .to .now) (l .i) (omega arith) (omega arith)
+returns c = copied-all (c .before .loop .inv .0) (omega arith)
 
 pub copy-words-spec : {M : Type 1} → statement M
 copy-words-spec =
