@@ -1,11 +1,13 @@
 -- What has been tested of a book's words and a record's bytes before a call is carried out, in the words of the tests and as plain bounds.
 use mathlib.Core.Path.{_≡_}
-use mathlib.Core.Bool.{Bool, true, false}
+use mathlib.Core.Bool.{Bool}
 use mathlib.Core.List.{List}
 use Prim.Native.Nat.{ℕ, _<_}
 use lib.IntN.{ℤ}
 use lib.ListN.{length}
 use Rattle.book_rules.specs.Record.{call-of, facility-of, service-of, record-number}
+use Rattle.book_rules.specs.Words.{part, facility-place}
+use Rattle.book_rules.specs.Refusals.{admission-number}
 use Rattle.book_rules.specs.Book.{facilities-in, services-in}
 use Rattle.judging.specs.Usable.{Usable}
 
@@ -26,3 +28,8 @@ pub record Place (w : List ℤ) (b : List ℕ) (k : ℕ) : Type 0 where
   pub call-is : call-of b ≡ k
   pub facility-in : facility-of b < facilities-in w
   pub service-in : service-of b < services-in w
+
+-- An offer that has passed 5, 9 and 10 as well.
+pub record Admitted (w : List ℤ) (b : List ℕ) (k : ℕ) (refused : Bool) : Type 0 where
+  pub place : Place w b k
+  pub is-admitted : admission-number (part (facility-place (facility-of b)) 17 w) (service-of b) refused ≡ 0

@@ -1,3 +1,3 @@
 -- Laws of what a writer draws.
-pub mod Admitted
+pub mod OfferParts
 pub mod SentKind

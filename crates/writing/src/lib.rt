@@ -5,11 +5,14 @@ ghost use mathlib.Core.Bool.{cond};
 ghost use Prim.Native.Nat.{_<_};
 ghost use lib.Dec.{eqb};
 ghost use lib.ListN.{length};
-ghost use Rattle.book_rules.specs.Record.{call-of};
+ghost use Rattle.offer_rules.specs.Numbers.{toNat, word};
+ghost use Rattle.offer_rules.specs.Time.{slot-refused, period-refused};
+ghost use Rattle.book_rules.specs.Record.{call-of, period-word};
+ghost use Rattle.book_rules.specs.Words.{clock-place};
 ghost use Rattle.book_rules.specs.Force.{plain};
 ghost use Rattle.book_rules.specs.Book.{facilities-in, services-in, file-offer, book-answer, book-after};
 ghost use Rattle.judging.specs.Usable.{Usable};
-ghost use Rattle.judging.specs.Tested.{Tested, Facility, Place};
+ghost use Rattle.judging.specs.Tested.{Tested, Facility, Place, Admitted};
 use cells::store_offer;
 use cells::store_window;
 use cells::store_word;
@@ -114,61 +117,78 @@ fn file_offer(
     0
 }
 
-// 5 to 18; files one cell. 5, 9 and 10 are drawn before the offer is read from the bytes, which takes longer than the rest of such a call.
-pub fn standing_call(book: &mut [i32], bytes: &[u8]) -> u8
-    requires { ⌜ Place (now book) (now bytes) 3 ⌝ }
+// 11 to 18 of a standing offer that is admitted; files one cell.
+fn stand(book: &mut [i32], bytes: &[u8]) -> u8
+    requires { ⌜ Admitted (now book) (now bytes) 3 (slot-refused (period-word (now bytes))) ⌝ }
     ensures { λ r. ⌜ (plain r ≡ book-answer (now (book .entry)) (now (bytes .entry))) × (now (book .exit) ≡ book-after (now (book .entry)) (now (bytes .entry))) ⌝ }
 {
     let f = wide(bytes[fields::FACILITY]);
     let service = bytes[fields::SERVICE];
-    let slot = word_at(bytes, fields::PERIOD);
-    let admission = admission_number(book, f, service, is_slot_refused(slot));
-    if admission != 0 {
-        return admission;
-    }
-    let k = nat(slot) as usize;
+    let slot = nat(word_at(bytes, fields::PERIOD)) as usize;
     let mut offer = [0i32; offer::WORDS];
     read_offer(bytes, &mut offer);
-    let number = standing_number(book, f, service, k, &offer);
+    let number = standing_number(book, f, service, slot, &offer);
     file_offer(
         book,
         f,
         service,
         cell::STANDING_HALF,
-        k,
+        slot,
         cell::STANDING_STAMP,
         &offer,
         number,
     )
 }
 
-// 5 to 17; files one cell. "The slot of P is P mod 336."
-pub fn variation_call(book: &mut [i32], bytes: &[u8]) -> u8
-    requires { ⌜ Place (now book) (now bytes) 4 ⌝ }
+// 5, 9 and 10 are drawn before the offer is read from the bytes, which takes longer than the rest of such a call.
+pub fn standing_call(book: &mut [i32], bytes: &[u8]) -> u8
+    requires { ⌜ Place (now book) (now bytes) 3 ⌝ }
+    ensures { λ r. ⌜ (plain r ≡ book-answer (now (book .entry)) (now (bytes .entry))) × (now (book .exit) ≡ book-after (now (book .entry)) (now (bytes .entry))) ⌝ }
+{
+    let f = wide(bytes[fields::FACILITY]);
+    let refused = is_slot_refused(word_at(bytes, fields::PERIOD));
+    let number = admission_number(book, f, bytes[fields::SERVICE], refused);
+    if number != 0 {
+        return number;
+    }
+    stand(book, bytes)
+}
+
+// 11 to 17 of a variation that is admitted; files one cell. "The slot of P is P mod 336."
+fn vary(book: &mut [i32], bytes: &[u8]) -> u8
+    requires { ⌜ Admitted (now book) (now bytes) 4 (period-refused (toNat (word (now book) clock-place)) (period-word (now bytes))) ⌝ }
     ensures { λ r. ⌜ (plain r ≡ book-answer (now (book .entry)) (now (bytes .entry))) × (now (book .exit) ≡ book-after (now (book .entry)) (now (bytes .entry))) ⌝ }
 {
     let f = wide(bytes[fields::FACILITY]);
     let service = bytes[fields::SERVICE];
-    let period = word_at(bytes, fields::PERIOD);
-    let refused = is_period_refused(clock(book), period);
-    let admission = admission_number(book, f, service, refused);
-    if admission != 0 {
-        return admission;
-    }
-    let p = nat(period) as usize;
+    let period = nat(word_at(bytes, fields::PERIOD)) as usize;
     let mut offer = [0i32; offer::WORDS];
     read_offer(bytes, &mut offer);
-    let number = variation_number(book, f, service, p, bytes[fields::REASON], &offer);
+    let number = variation_number(book, f, service, period, bytes[fields::REASON], &offer);
     file_offer(
         book,
         f,
         service,
         cell::VARIATION_HALF,
-        p % SLOTS,
-        (p + 1) as u32,
+        period % SLOTS,
+        (period + 1) as u32,
         &offer,
         number,
     )
+}
+
+// 5, 9 and 10 before the offer is read, as of a standing offer.
+pub fn variation_call(book: &mut [i32], bytes: &[u8]) -> u8
+    requires { ⌜ Place (now book) (now bytes) 4 ⌝ }
+    ensures { λ r. ⌜ (plain r ≡ book-answer (now (book .entry)) (now (bytes .entry))) × (now (book .exit) ≡ book-after (now (book .entry)) (now (bytes .entry))) ⌝ }
+{
+    let f = wide(bytes[fields::FACILITY]);
+    let refused = is_period_refused(clock(book), word_at(bytes, fields::PERIOD));
+    let number = admission_number(book, f, bytes[fields::SERVICE], refused);
+    if number != 0 {
+        return number;
+    }
+    vary(book, bytes)
 }
 
 // 5 and 7; files the facility's window.

@@ -1,0 +1,115 @@
+use borrow.Author.Needs.{needs, sfits-of}
+use Rattle.writing.proofs.vary.Statement.{statement}
+use Rattle.writing.proofs.vary.Tie as tie
+use mathlib.Core.Path.{_≡_, sym, _∙_, ap}
+use Prim.Native.Nat.{_<_}
+use native.Mathlib.Omega.{arith}
+use mir.Syntax.{w32}
+use mir.Facts.{toZ-ofZ}
+use Rattle.offer_rules.specs.Numbers.{toNat, word}
+use Rattle.offer_rules.specs.Time.{slot-of}
+use Rattle.offer_rules.proofs.Periods.{period-is}
+use Rattle.book_rules.specs.Record.{service-of, period-word}
+use Rattle.book_rules.specs.Words.{clock-place, variation-half, variation-stamp}
+use Rattle.book_rules.specs.Book.{file-offer}
+use Rattle.book_rules.proofs.Calls.{length-offer}
+use Rattle.book_rules.proofs.OneCall.{accept-variation}
+use Rattle.book_rules.proofs.Rules.{admitted}
+use Rattle.writing.proofs.OfferParts.{judged, variation-parts}
+
+-- The period as a count, and that it has passed 10.
+count : (c : tie.After-nat) → c .nat .result ≡ toNat (period-word (c .before .before .before .before .before .before .args .bytes .now))
+count c = c .nat .ensures .0 ∙ ap toNat (toZ-ofZ {w = w32} (sfits-of (c .before .word-at .ok)) ∙ c .before .word-at .ensures)
+
+period-in : (s : tie.Start) → toNat (period-word (s .args .bytes .now)) < 40000000
+period-in s =
+    let h = period-is (toNat (word (s .args .book .now) clock-place)) (period-word (s .args .bytes .now)) (admitted _ _ _ (s .pre .is-admitted)) .2 in
+    omega (arith, h, s .pre .place .tested .usable .timely)
+
+shared-slice-read-wide : tie.Need-shared-slice-read-wide
+shared-slice-read-wide c = search needs
+
+wide-requires : tie.Need-wide-requires
+wide-requires c κs = search needs
+
+shared-slice-read-service : tie.Need-shared-slice-read-service
+shared-slice-read-service c = search needs
+
+word-at-requires : tie.Need-word-at-requires
+word-at-requires c κs = search needs
+
+nat-requires : tie.Need-nat-requires
+nat-requires c κs = search needs
+
+slice-aggregate-read-offer : tie.Need-slice-aggregate-read-offer
+slice-aggregate-read-offer c = search needs
+
+read-offer-requires : tie.Need-read-offer-requires
+read-offer-requires c κs = search needs
+
+shared-slice-read-variation-number : tie.Need-shared-slice-read-variation-number
+shared-slice-read-variation-number c = search needs
+
+slice-aggregate-variation-number : tie.Need-slice-aggregate-variation-number
+slice-aggregate-variation-number c = search needs
+
+variation-number-requires : tie.Need-variation-number-requires
+variation-number-requires c κs =
+    let s = c .before .before .before .before .before .before .before .before .before .before .before .before in
+    rw (c .before .before .before .before .before .before .before .before .before .wide .ensures, count (c .before .before .before .before .before .before), c .before .before .before .before .read-offer .ensures)
+    (s .pre .place .tested .usable, s .pre .place .facility-in, s .pre .place .service-in, omega (arith, period-in s), length-offer (s .args .bytes .now))
+
+add-file-offer : tie.Need-add-file-offer
+add-file-offer c = search needs
+
+cast-file-offer : tie.Need-cast-file-offer
+cast-file-offer c = search needs
+
+slice-aggregate-file-offer : tie.Need-slice-aggregate-file-offer
+slice-aggregate-file-offer c = search needs
+
+file-offer-requires : tie.Need-file-offer-requires
+file-offer-requires c κs =
+    let s = c .before .before .before .before .before .before .before .before .before .before .before .before .before .before .before in
+    rw (c .before .before .before .before .before .before .before .before .before .before .before .before .wide .ensures, count (c .before .before .before .before .before .before .before .before .before), c .before .before .before .before .before .before .before .read-offer .ensures)
+    (s .pre .place .tested .usable, s .pre .place .facility-in, s .pre .place .service-in, omega arith, omega arith, omega (arith, period-in s), length-offer (s .args .bytes .now))
+
+same-length : tie.Need-same-length
+same-length c = search needs
+
+returns : tie.Need-returns
+returns c =
+    let x = c .before .file-offer in
+    let n = c .before .before .before .before .variation-number in
+    let o = c .before .before .before .before .before .before .before .before .before .read-offer in
+    let p = c .before .before .before .before .before .before .before .before .before .before .before in
+    let f = c .before .before .before .before .before .before .before .before .before .before .before .before .before .before .wide in
+    let s = c .before .before .before .before .before .before .before .before .before .before .before .before .before .before .before .before .before in
+    let w = s .args .book .now in
+    let b = s .args .bytes .now in
+    let call = s .pre .place .call-is in
+    rw (x .ensures .0, x .ensures .1)
+    (judged w b (s .pre .place .tested) _ _ (variation-parts w b call) 4 call (omega arith) (s .pre .is-admitted) (n .result) (rw (n .ensures .0, f .ensures, count p, o .ensures))
+    (file-offer w (f .result) (service-of b) variation-half (slot-of (p .nat .result)) (variation-stamp (p .nat .result)) (o .last .1 .0))
+    (rw (f .ensures, count p, o .ensures) (sym (accept-variation w b call))))
+
+pub vary-spec : {M : Type 1} → statement M
+vary-spec =
+    tie.close
+    (tie.spec
+    shared-slice-read-wide
+    wide-requires
+    shared-slice-read-service
+    word-at-requires
+    nat-requires
+    slice-aggregate-read-offer
+    read-offer-requires
+    shared-slice-read-variation-number
+    slice-aggregate-variation-number
+    variation-number-requires
+    add-file-offer
+    cast-file-offer
+    slice-aggregate-file-offer
+    file-offer-requires
+    same-length
+    returns)
