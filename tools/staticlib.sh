@@ -4,16 +4,23 @@
 set -euo pipefail
 cd "$(dirname "$0")/.."
 
-for tool in rt ar; do
+for tool in rt ar xargs; do
     command -v "$tool" >/dev/null || { echo "$tool is not on the PATH" >&2; exit 2; }
 done
 
-crates="record opening book"
-for crate in $crates; do
-    rt staticlib "$crate"
-done
+# An archive has the functions for C of one crate alone. rt checks that crate as a static library, over the libraries that it
+# depends on: these are proved first, once, so that the three can be built beside each other.
+crates="record book opening"
 parts=$(mktemp -d)
 trap 'rm -rf "$parts"' EXIT
+rt check $crates >"$parts/check" || { cat "$parts/check"; exit 1; }
+failed=0
+printf '%s\n' $crates | xargs -P "${RT_JOBS:-$(nproc)}" -I '{}' sh -c "rt staticlib {} >'$parts/{}' 2>&1" || failed=1
+for crate in $crates; do
+    if [ "$failed" -eq 0 ]; then grep '^logic=' "$parts/$crate" | sed "s/^/$crate: /"; else cat "$parts/$crate"; fi
+done
+[ "$failed" -eq 0 ] || exit 1
+
 here=$PWD
 for crate in $crates; do
     (cd "$parts" && ar x "$here/target/staticlib/lib$crate.a")
