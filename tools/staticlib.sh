@@ -15,6 +15,7 @@ crates="record book opening"
 parts=$(mktemp -d)
 trap 'rm -rf "$parts"' EXIT
 rt check $crates >"$parts/check" || { cat "$parts/check"; exit 1; }
+tail -n 1 "$parts/check"
 failed=0
 printf '%s\n' $crates | xargs -P "${RT_JOBS:-$(nproc)}" -I '{}' sh -c "rt staticlib {} >'$parts/{}' 2>&1" || failed=1
 for crate in $crates; do
