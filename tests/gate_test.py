@@ -25,6 +25,11 @@ def is_running(process):
         return False
 
 
+def ignore_no_signal():
+    for number in (signal.SIGTERM, signal.SIGHUP, signal.SIGINT):
+        signal.signal(number, signal.SIG_DFL)
+
+
 SCRIPTS = sorted(set(re.findall(r"\b(?:tools|tests)/\w+\.(?:py|sh)\b", read(GATE))))
 STEPS = ["rt fmt --check"] + SCRIPTS
 CLOSING = "44 passed, 0 failed"
@@ -74,7 +79,9 @@ class Gate(unittest.TestCase):
         open(self.path("ran"), "w").close()
         environment = dict(os.environ, PATH=self.path("bin") + os.pathsep + os.environ["PATH"], TMPDIR=self.room)
         with open(self.path("output"), "w") as output:
-            return subprocess.Popen([self.path(".ci", "run")], env=environment, stdout=output, stderr=subprocess.STDOUT)
+            return subprocess.Popen(
+                [self.path(".ci", "run")], env=environment, stdout=output, stderr=subprocess.STDOUT, preexec_fn=ignore_no_signal
+            )
 
     def ended(self, gate):
         return gate.wait(timeout=30), read(self.path("output")).splitlines()
@@ -118,7 +125,7 @@ class Gate(unittest.TestCase):
 
     def test_a_run_that_is_ended_has_not_passed(self):
         for step in ("rt ci", "tools/staticlib.sh", "tests/run.sh"):
-            for number in (signal.SIGTERM, signal.SIGHUP, signal.SIGKILL):
+            for number in (signal.SIGTERM, signal.SIGHUP, signal.SIGINT, signal.SIGKILL):
                 with self.subTest(step=step, signal=number):
                     gate = self.start({step: "wait"})
                     while not os.path.exists(self.path("waits")) or not read(self.path("waits")):
