@@ -16,16 +16,22 @@ parts=$(mktemp -d)
 trap 'rm -rf "$parts"' EXIT
 rt check $crates >"$parts/check" || { cat "$parts/check"; exit 1; }
 tail -n 1 "$parts/check"
-failed=0
-printf '%s\n' $crates | xargs -P "${RT_JOBS:-$(nproc)}" -I '{}' sh -c "rt staticlib {} >'$parts/{}' 2>&1" || failed=1
+
+# Two rt at a time can't share a target/: each has a folder of its own, with what is proved.
 for crate in $crates; do
-    if [ "$failed" -eq 0 ]; then grep '^logic=' "$parts/$crate" | sed "s/^/$crate: /"; else cat "$parts/$crate"; fi
+    mkdir -p "$parts/$crate/target"
+    ln -s "$PWD/crates.txt" "$PWD/crates" "$parts/$crate"
+    ln -s "$PWD/target/rlib" "$PWD/target/stamp" "$parts/$crate/target"
+done
+failed=0
+printf '%s\n' $crates | xargs -P "${RT_JOBS:-$(nproc)}" -I '{}' sh -c "cd '$parts/{}' && rt staticlib {} >log 2>&1" || failed=1
+for crate in $crates; do
+    if [ "$failed" -eq 0 ]; then grep '^logic=' "$parts/$crate/log" | sed "s/^/$crate: /"; else cat "$parts/$crate/log"; fi
 done
 [ "$failed" -eq 0 ] || exit 1
 
-here=$PWD
 for crate in $crates; do
-    (cd "$parts" && ar x "$here/target/staticlib/lib$crate.a")
+    (cd "$parts" && ar x "$crate/target/staticlib/lib$crate.a")
 done
 rm -f target/libbilzhaan.a
 ar rcsD target/libbilzhaan.a "$parts"/*.o
