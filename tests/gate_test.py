@@ -84,7 +84,7 @@ class Gate(unittest.TestCase):
             )
 
     def ended(self, gate):
-        return gate.wait(timeout=30), read(self.path("output")).splitlines()
+        return gate.wait(timeout=60), read(self.path("output")).splitlines()
 
     def ran(self):
         return read(self.path("ran")).splitlines()
@@ -133,10 +133,10 @@ class Gate(unittest.TestCase):
                         time.sleep(0.01)
                     waits = int(read(self.path("waits")))
                     gate.send_signal(number)
-                    gate.wait(timeout=30)
+                    gate.wait(timeout=60)
                     if number == signal.SIGKILL:
                         os.kill(waits, signal.SIGTERM)
-                    end = time.monotonic() + 5
+                    end = time.monotonic() + 20
                     while is_running(waits):
                         self.assertLess(time.monotonic(), end, "a test goes on after the run was ended")
                         time.sleep(0.01)
