@@ -1,8 +1,9 @@
 /* Times each kind of call on the library and on the plain book, F 64 and S 5, in one run; a benchmark, not a test.
- * Prints tab-separated lines: kind, where, who, calls, nanoseconds a call. Argument: rounds (default 15), or
- * 'instructions' for one short round, of which callgrind counts measured_calls. */
+ * Prints tab-separated lines: kind, where, who, calls, nanoseconds a call with the loop around it. Argument: rounds
+ * (default 15), or 'instructions' for one short round, of which callgrind counts measured_calls.
+ * The plain book is linked once for each way in which it is compiled, under names of its own: see run.sh. */
 #define _DEFAULT_SOURCE
-#include "plain_book.h"
+#include "bilzhaan.h"
 #include "../tests/c/records.h"
 
 #include <inttypes.h>
@@ -15,8 +16,7 @@
 enum {
     F = 64, S = 5, NOW = 100000, /* minute 100,000: period 3333 is on */
     FIRST_PERIOD = NOW / 30 + 1, OPEN_PERIOD = FIRST_PERIOD + 3, HORIZON = 48 * (NOW / 1440 + 7),
-    READ_PERIOD = OPEN_PERIOD + 240, TOTAL_KEYS = 64, MOST_KEYS = 2048,
-    SUBJECTS = 3 /* the library, the plain book, and the loop alone */
+    READ_PERIOD = OPEN_PERIOD + 240, TOTAL_KEYS = 64, MOST_KEYS = 2048
 };
 
 _Static_assert(READ_PERIOD + TOTAL_KEYS <= HORIZON, "every period that is read is inside the horizon");
@@ -25,11 +25,19 @@ static const int32_t limits[6] = {-450000, 450000, 450000, 450000, 450000, 45000
 
 /* ---- who is measured ---- */
 
+typedef __typeof__(bilzhaan_record_test) record_test_function;
+typedef __typeof__(bilzhaan_open) open_function;
+typedef __typeof__(bilzhaan_call) call_function;
+
+record_test_function gcc_o2_record_test, gcc_o3_record_test, clang_o2_record_test;
+open_function gcc_o2_open, gcc_o3_open, clang_o2_open;
+call_function gcc_o2_call, gcc_o3_call, clang_o2_call;
+
 struct subject {
     const char *name;
-    int32_t (*record_test)(const uint8_t *, size_t, int32_t, int32_t);
-    uint32_t (*open)(int32_t *, size_t, int32_t, int32_t, const int32_t *);
-    struct bilzhaan_answer (*call)(int32_t *, size_t, const uint8_t *, size_t);
+    record_test_function *record_test;
+    open_function *open;
+    call_function *call;
     int32_t *words;
     double best; /* nanoseconds a call */
 };
@@ -56,6 +64,17 @@ static uint32_t no_open(int32_t *words, size_t count, int32_t facilities, int32_
     (void)words, (void)count, (void)facilities, (void)services, (void)given;
     return 0;
 }
+
+static struct subject subjects[] = {
+    {"library", bilzhaan_record_test, bilzhaan_open, bilzhaan_call, NULL, 0},
+    {"gcc -O2", gcc_o2_record_test, gcc_o2_open, gcc_o2_call, NULL, 0},
+    {"gcc -O3", gcc_o3_record_test, gcc_o3_open, gcc_o3_call, NULL, 0},
+#ifdef WITH_CLANG
+    {"clang -O2", clang_o2_record_test, clang_o2_open, clang_o2_call, NULL, 0},
+#endif
+    {"loop", no_test, no_open, no_call, NULL, 0},
+};
+enum { SUBJECTS = sizeof subjects / sizeof *subjects, BOOKS = SUBJECTS - 1 };
 
 /* ---- kinds of calls ---- */
 
@@ -391,15 +410,16 @@ static void set_up(const struct subject *who)
         file(who, standing_for(read_keys[i], 0));
 }
 
-/* One kind on every subject in turn, `rounds` times and every other round backwards; the least time counts. */
+/* One kind on every subject, `rounds` times; the least time counts. Each round begins with another subject, so that
+ * between two turns of any of them all the others have had theirs. */
 static void measure(const struct kind *kind, const char *where, const struct record *records, size_t count, size_t calls,
-                    int rounds, struct subject subjects[SUBJECTS])
+                    int rounds)
 {
     size_t at[SUBJECTS] = {0};
     for (int round = 0; round < rounds; round++) {
         uint64_t seen[SUBJECTS];
         for (int turn = 0; turn < SUBJECTS; turn++) {
-            int i = round % 2 == 0 ? turn : SUBJECTS - 1 - turn;
+            int i = (round + turn) % SUBJECTS;
             struct run run = {&subjects[i], kind, records, count, at[i], calls};
             double start = nanoseconds();
             seen[i] = measured_calls(&run);
@@ -408,45 +428,45 @@ static void measure(const struct kind *kind, const char *where, const struct rec
             if (round == 0 || each < subjects[i].best)
                 subjects[i].best = each;
         }
-        if (seen[0] >> 40 != 0 || seen[0] != seen[1]) {
-            fprintf(stderr, "%s: the answers are not the expected ones\n", kind->name);
-            exit(1);
+        for (int i = 0; i < BOOKS; i++) {
+            if (seen[i] >> 40 != 0 || seen[i] != seen[0]) {
+                fprintf(stderr, "%s, %s: the answers are not the expected ones\n", kind->name, subjects[i].name);
+                exit(1);
+            }
         }
     }
     for (int i = 0; i < SUBJECTS; i++)
-        printf("%s\t%s\t%s\t%zu\t%.2f\n", kind->name, where, subjects[i].name, calls, subjects[i].best);
+        printf("%s\t%s\t%s\t%zu\t%.3f\n", kind->name, where, subjects[i].name, calls, subjects[i].best);
 }
 
 int main(int argc, char **argv)
 {
     bool instructions = argc > 1 && strcmp(argv[1], "instructions") == 0;
     int rounds = instructions ? 1 : argc > 1 ? atoi(argv[1]) : 15;
-    size_t words = BILZHAAN_BOOK_WORDS(F, S);
-    struct subject subjects[SUBJECTS] = {
-        {"library", bilzhaan_record_test, bilzhaan_open, bilzhaan_call, calloc(words, 4), 0},
-        {"plain", plain_record_test, plain_open, plain_call, calloc(words, 4), 0},
-        {"loop", no_test, no_open, no_call, NULL, 0},
-    };
-    if (!subjects[0].words || !subjects[1].words || rounds < 1)
+    if (rounds < 1)
         return 2;
     if (instructions)
         keys = 64;
     make_kinds();
-    set_up(&subjects[0]);
-    set_up(&subjects[1]);
+    for (int i = 0; i < BOOKS; i++) {
+        subjects[i].words = calloc(BILZHAAN_BOOK_WORDS(F, S), 4);
+        if (!subjects[i].words)
+            return 2;
+        set_up(&subjects[i]);
+    }
     for (int i = 0; i < kind_count; i++) {
         const struct kind *k = &kinds[i];
         size_t hot = instructions ? 64 : 4096, scattered = instructions ? k->scattered_count : 4096;
-        measure(k, "hot", k->hot, k->hot_count, hot, rounds, subjects);
+        measure(k, "hot", k->hot, k->hot_count, hot, rounds);
         if (k->scattered)
-            measure(k, "scattered", k->scattered, k->scattered_count, scattered, rounds, subjects);
+            measure(k, "scattered", k->scattered, k->scattered_count, scattered, rounds);
     }
     static const int32_t sizes[2][2] = {{1, 1}, {F, S}};
     static const char *const names[2] = {"opening, 16,224 words", "opening, 5,163,072 words"};
     for (int i = 0; i < 2; i++) {
         struct record unused = clock_at(0);
         struct kind k = {names[i], OPENING, 0, &unused, NULL, 1, 0, 0, sizes[i][0], sizes[i][1]};
-        measure(&k, "hot", &unused, 1, instructions ? 1 : i == 0 ? 256 : 4, rounds, subjects);
+        measure(&k, "hot", &unused, 1, instructions ? 1 : i == 0 ? 256 : 4, rounds);
     }
     return 0;
 }

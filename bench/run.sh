@@ -1,15 +1,15 @@
 #!/usr/bin/env bash
-# Builds into target/bench/ and measures the library against bench/plain_book.c (gcc -O2), as a Markdown table.
-# Arguments: the static library, processes (15), rounds (15). A process's nanoseconds are the least of its rounds, the loop around
-# taken off. Shown are the least of the processes, and the median of their ratios: where a process's stack and books lie, and what
-# else the machine does, changes some calls by a tenth.
+# Builds into target/bench/ and measures the library against bench/plain_book.c, compiled by gcc -O2, gcc -O3 and clang -O2, as two
+# Markdown tables: nanoseconds and instructions. Arguments: the static library, processes (31), rounds (40).
+# A process's nanoseconds are the least of its rounds, and a figure is the median of the processes: where a process's stack and books
+# lie changes some calls by a tenth. Every figure includes the loop around the call, and a ratio is that of the two figures shown.
 set -euo pipefail
 
 [ $# -ge 1 ] || { echo "usage: bench/run.sh LIBRARY.a [PROCESSES] [ROUNDS]" >&2; exit 2; }
 [ -f "$1" ] || { echo "no library at $1" >&2; exit 2; }
 library=$(realpath "$1")
-processes=${2:-15}
-rounds=${3:-15}
+processes=${2:-31}
+rounds=${3:-40}
 cd "$(dirname "$0")/.."
 
 for tool in gcc awk; do
@@ -19,7 +19,27 @@ done
 out=target/bench
 rm -rf "$out"
 mkdir -p "$out"
-gcc -std=c11 -Wall -Wextra -Werror -pedantic -O2 -Iinclude bench/bench.c bench/plain_book.c "$library" -o "$out/bench"
+
+# The plain book under the names NAME_call, NAME_open and NAME_record_test.
+plain() { # NAME COMPILER...
+    local name=$1
+    shift
+    "$@" -std=c11 -Wall -Wextra -Werror -pedantic -Iinclude -Dplain_call="${name}_call" -Dplain_open="${name}_open" \
+        -Dplain_record_test="${name}_record_test" -c bench/plain_book.c -o "$out/$name.o"
+}
+plain gcc_o2 gcc -O2
+plain gcc_o3 gcc -O3
+compilers=$(gcc --version | head -n 1)
+with_clang=""
+if command -v clang >/dev/null; then
+    plain clang_o2 clang -O2
+    with_clang=-DWITH_CLANG
+    compilers="$compilers, $(clang --version | head -n 1)"
+else
+    echo "clang is not on the PATH: its columns are left out" >&2
+    compilers="$compilers; clang was not at hand"
+fi
+gcc -std=c11 -Wall -Wextra -Werror -pedantic -O2 -Iinclude $with_clang bench/bench.c "$out"/*.o "$library" -o "$out/bench"
 
 for i in $(seq "$processes"); do
     "$out/bench" "$rounds" | awk -v process="$i" '{ print $0 "\t" process }'
@@ -40,54 +60,56 @@ else
     echo "valgrind is not on the PATH: no instructions are counted" >&2
 fi
 
-echo "Machine: $(awk -F': ' '/^model name/ { print $2; exit }' /proc/cpuinfo), $(gcc --version | head -n 1)."
-echo
+echo "Machine: $(awk -F': ' '/^model name/ { print $2; exit }' /proc/cpuinfo); $compilers. $processes processes, $rounds rounds each."
 awk -F'\t' '
-    function ratio(a, b) { return b > 0 ? sprintf("%.2f", a / b) : "-" }
-    function less_loop(key, subject, i) { return ns[key, subject, i] - ns[key, "loop", i] }
-    function least(key, subject,    i, x) {
-        x = less_loop(key, subject, 1)
-        for (i = 2; i <= processes; i++) if (less_loop(key, subject, i) < x) x = less_loop(key, subject, i)
-        return x
-    }
-    # The median of the ratios, over the processes in which plain C takes any time beyond the loop.
-    function median_ratio(key,    i, j, n, x, v) {
-        n = 0
+    function median(key, subject,    i, j, x, v) {
         for (i = 1; i <= processes; i++) {
-            if (less_loop(key, "plain", i) <= 0) continue
-            x = less_loop(key, "library", i) / less_loop(key, "plain", i)
-            for (j = n; j >= 1 && v[j] > x; j--) v[j + 1] = v[j]
+            x = ns[key, subject, i]
+            for (j = i - 1; j >= 1 && v[j] > x; j--) v[j + 1] = v[j]
             v[j + 1] = x
-            n++
         }
-        return n > 0 ? sprintf("%.2f", (v[int((n + 1) / 2)] + v[int(n / 2) + 1]) / 2) : "-"
+        return (v[int((processes + 1) / 2)] + v[int(processes / 2) + 1]) / 2
+    }
+    # One row: the figures as they are shown, then the ratios of these.
+    function row(key, figures, format,    i, name, shown) {
+        split(key, name, FS)
+        printf "| %s | %s |", name[1], name[2]
+        for (i = 1; i <= subjects; i++) {
+            shown[i] = sprintf(format, figures[i])
+            printf " %s |", shown[i]
+        }
+        for (i = 2; i <= subjects; i++) printf " %s |", (shown[i] > 0 ? sprintf("%.2f", shown[1] / shown[i]) : "-")
+        print ""
+    }
+    function head(title,    i) {
+        printf "\n%s\n\n| Call | Where | Library |", title
+        for (i = 2; i <= subjects; i++) printf " %s |", subject[i]
+        for (i = 2; i <= subjects; i++) printf " Library to %s |", subject[i]
+        printf "\n|---|---|"
+        for (i = 1; i < 2 * subjects; i++) printf "---|"
+        print ""
     }
     FILENAME ~ /times/ {
         key = $1 FS $2
         if (!(key in seen)) { seen[key] = 1; order[++rows] = key }
+        if (rows == 1 && $6 == 1 && $3 != "loop") subject[++subjects] = $3
         ns[key, $3, $6] = $5
         processes = $6
         next
     }
-    { count[$1 FS $2, $3] = $6 / $4 }
+    { count[$1 FS $2, $3] = $6 / $4; counted = 1 }
     END {
-        print "| Call | Where | Library, ns | Plain C, ns | Ratio | Library, instructions | Plain C, instructions | Ratio |"
-        print "|---|---|---|---|---|---|---|---|"
+        head("Nanoseconds a call, the loop around included:")
         for (i = 1; i <= rows; i++) {
-            key = order[i]
-            split(key, name, FS)
-            printf "| %s | %s | %.1f | %.1f | %s |", name[1], name[2], least(key, "library"), least(key, "plain"), median_ratio(key)
-            if ((key, "library") in count) {
-                a = count[key, "library"] - count[key, "loop"]
-                b = count[key, "plain"] - count[key, "loop"]
-                printf " %.0f | %.0f | %s |\n", a, b, ratio(a, b)
-            } else
-                print " - | - | - |"
+            for (j = 1; j <= subjects; j++) figures[j] = median(order[i], subject[j])
+            row(order[i], figures, "%.1f")
+        }
+        printf "\nThe loop with a call that does nothing takes %.1f ns, with a record test that does nothing %.1f ns.\n", \
+            median("1 clock" FS "hot", "loop"), median("record test, look-up" FS "hot", "loop")
+        if (!counted) exit
+        head("Instructions a call, by callgrind, the loop taken off:")
+        for (i = 1; i <= rows; i++) {
+            for (j = 1; j <= subjects; j++) figures[j] = count[order[i], subject[j]] - count[order[i], "loop"]
+            row(order[i], figures, "%.0f")
         }
     }' "$out/times.tsv" "$out/instructions.tsv"
-echo
-cat <<NOTE
-Hot: the same cell again and again; scattered: a random facility and slot each time. A process's nanoseconds are the least of $rounds
-rounds, without the loop around; shown are the least of $processes processes, and the median of their ratios. Callgrind counts every
-repetition of a string instruction, as in the memset of an opening.
-NOTE

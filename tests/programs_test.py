@@ -1,6 +1,6 @@
 """The two programs, run: document 01's on its worked run and on vectors, and the replay of whole lists.
 
-Run after `rt check offer_book replay`, which builds them into target/bin/."""
+Run after `rt ci` or `rt check offer_book replay`, which build them into target/bin/."""
 import os
 import subprocess
 import unittest

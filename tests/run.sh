@@ -33,22 +33,33 @@ check() {
     fi
 }
 
-# A test program: its counts are those of its last line.
-run() {
-    echo "-- $(basename "$1")"
-    local status=0
-    "$@" >"$out/last.txt" || status=$?
-    cat "$out/last.txt"
+# What a test program printed: its counts are those of its last line.
+count() { # NAME STATUS OUTPUT
+    echo "-- $1"
+    cat "$3"
     local counts
-    counts=$(awk 'END { if ($0 ~ /^[0-9]+ passed, [0-9]+ failed$/) print $1, $3 }' "$out/last.txt")
-    if [ -z "$counts" ] || { [ "$status" -ne 0 ] && [ "${counts#* }" -eq 0 ]; }; then
-        echo "$(basename "$1") ended with status $status and no result"
+    counts=$(awk 'END { if ($0 ~ /^[0-9]+ passed, [0-9]+ failed$/) print $1, $3 }' "$3")
+    if [ -z "$counts" ] || { [ "$2" -ne 0 ] && [ "${counts#* }" -eq 0 ]; }; then
+        echo "$1 ended with status $2 and no result"
         failed=$((failed + 1))
         return
     fi
     passed=$((passed + ${counts% *}))
     failed=$((failed + ${counts#* }))
 }
+
+run() {
+    local status=0
+    "$@" >"$out/last.txt" || status=$?
+    count "$(basename "$1")" "$status" "$out/last.txt"
+}
+
+# Random lists run beside the tests that follow, and are counted last.
+$c11 tests/c/differential_test.c tests/c/compared_call.c tests/c/random_calls.c tests/c/list_machine.c \
+    bench/plain_book.c "$library" -o "$out/differential_test"
+"$out/differential_test" "$seconds" "$seed" >"$out/random.txt" &
+random=$!
+trap 'kill "$random" 2>/dev/null || :' EXIT
 
 # What the header says of every function, as far as an archive shows it. Lines of nm: address (if defined), kind, name.
 symbols() { nm "$library" | awk "NF >= 2 { kind = \$(NF - 1); name = \$NF; if ($1) print name }"; }
@@ -81,12 +92,13 @@ check "calls from C++" "$out/header_test"
 
 $c11 tests/c/library_*.c tests/c/check.c "$library" -o "$out/library_test"
 $c11 tests/c/vectors_test.c tests/c/list_machine.c bench/plain_book.c "$library" -o "$out/vectors_test"
-$c11 tests/c/differential_test.c tests/c/compared_call.c tests/c/random_calls.c tests/c/list_machine.c \
-    bench/plain_book.c "$library" -o "$out/differential_test"
 
 run "$out/library_test"
 run "$out/vectors_test" tests/vectors
-run "$out/differential_test" "$seconds" "$seed"
+status=0
+wait "$random" || status=$?
+trap - EXIT
+count differential_test "$status" "$out/random.txt"
 
 echo "$passed passed, $failed failed"
 [ "$failed" -eq 0 ]
