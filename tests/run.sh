@@ -102,51 +102,16 @@ check "the archive has the functions of the header" functions
 check "the library calls no allocator, nor anything but memory copies" calls_nothing
 check "the library has no writable globals" no_globals
 
-g++ -std=c++11 $warnings -O2 -Iinclude tests/c/header_test.cpp "$library" -o "$out/header_test"
-check "calls from C++" "$out/header_test"
+g++ -std=c++11 $warnings -O2 -Iinclude tests/c/header_test.cpp "$library" -o "$out/header_cpp_test"
+check "calls from C++" "$out/header_cpp_test"
 
-gcc -std=c99 $warnings -O2 -Iinclude tests/c/header_test.c "$library" -o "$out/header_constants_test"
+gcc -std=c99 $warnings -O2 -Iinclude tests/c/header_test.c "$library" -o "$out/header_test"
 gcc -std=c99 $warnings -O2 -Iinclude tests/c/record_header_test.c "$library" -o "$out/record_header_test"
-run "$out/header_constants_test"
+run "$out/header_test"
 run tests/header_mutants.sh "$library"
 run "$out/record_header_test" samples/worked-run.records
 check "the numbers' texts are those of docs/REFUSALS.md" texts_of_the_page
-
-# An installed copy: the example is built by its flags alone. Then one with DESTDIR.
-install_copy() {
-    if command -v make >/dev/null; then make -s install LIBRARY="$library" "$@"; else env LIBRARY="$library" "$@" tools/install.sh; fi >/dev/null
-}
-flags_of_file() {
-    (
-        eval "$(grep -E '^[a-z]+=' "$1")"
-        eval "echo $(sed -n 's/^Cflags: //p' "$1") $(sed -n 's/^Libs: //p' "$1")"
-    )
-}
-flags_of_pkg_config() {
-    if ! command -v pkg-config >/dev/null; then return 0; fi
-    local said
-    read -ra said <<<"$(PKG_CONFIG_PATH="$prefix/lib/pkgconfig" pkg-config --cflags --libs bilzhaan)"
-    [ "${said[*]}" = "$flags" ] && PKG_CONFIG_PATH="$prefix/lib/pkgconfig" pkg-config --exact-version=1.0.0 bilzhaan
-}
-example() {
-    gcc -std=c99 $warnings -O2 examples/three_facilities.c $flags -o "$out/three_facilities" || return 1
-    "$out/three_facilities" | diff examples/three_facilities.txt -
-}
-staged() {
-    local file
-    for file in include/bilzhaan.h include/bilzhaan_record.h lib/libbilzhaan.a lib/pkgconfig/bilzhaan.pc; do
-        [ -f "$out/stage/usr/$file" ] || return 1
-    done
-    grep -qx 'prefix=/usr' "$out/stage/usr/lib/pkgconfig/bilzhaan.pc"
-}
-prefix=$PWD/$out/prefix
-rm -rf "$prefix" "$out/stage"
-install_copy PREFIX="$prefix"
-flags=$(flags_of_file "$prefix/lib/pkgconfig/bilzhaan.pc")
-check "pkg-config says the file's flags, and version 1.0.0" flags_of_pkg_config
-check "the example from an installed copy" example
-install_copy PREFIX=/usr DESTDIR="$PWD/$out/stage"
-check "an installation under DESTDIR" staged
+run tests/installed_test.sh "$library"
 
 $c11 -pthread tests/c/library_*.c tests/c/check.c "$library" -o "$out/library_test"
 $c11 tests/c/vectors_test.c tests/c/list_machine.c bench/plain_book.c "$library" -o "$out/vectors_test"
