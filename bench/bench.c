@@ -53,7 +53,7 @@ static struct bilzhaan_answer no_call(int32_t *words, size_t count, const uint8_
     return a;
 }
 
-static int32_t no_test(const uint8_t *bytes, size_t count, int32_t facilities, int32_t services)
+static uint32_t no_test(const uint8_t *bytes, size_t count, int32_t facilities, int32_t services)
 {
     (void)count, (void)facilities, (void)services;
     return bytes[0] == 'S' ? 0 : 2;
@@ -361,8 +361,8 @@ __attribute__((noinline)) uint64_t measured_calls(struct run *run)
             struct bilzhaan_answer a = who->call(who->words, words, bytes, kind->length);
             seen += (uint64_t)a.sum + (uint64_t)a.words[0] + ((uint64_t)(a.number != kind->expected) << 40);
         } else if (kind->what == RECORD_TEST) {
-            int32_t number = who->record_test(bytes, kind->length, F, S);
-            seen += (uint64_t)((uint32_t)number != kind->expected) << 40;
+            uint32_t number = who->record_test(bytes, kind->length, F, S);
+            seen += (uint64_t)(number != kind->expected) << 40;
         } else {
             seen += (uint64_t)who->open(who->words, words, kind->facilities, kind->services, limits) << 40;
         }

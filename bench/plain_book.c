@@ -136,9 +136,9 @@ static int record_number(const uint8_t *r, size_t length, int32_t facilities, in
     return 2;
 }
 
-int32_t plain_record_test(const uint8_t *bytes, size_t count, int32_t facilities, int32_t services)
+uint32_t plain_record_test(const uint8_t *bytes, size_t count, int32_t facilities, int32_t services)
 {
-    return sizes_ok(facilities, services) ? record_number(bytes, count, facilities, services) : 20;
+    return sizes_ok(facilities, services) ? (uint32_t)record_number(bytes, count, facilities, services) : 20;
 }
 
 /* ---- periods: 10 ---- */

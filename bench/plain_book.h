@@ -5,7 +5,7 @@
 
 #include "bilzhaan.h"
 
-int32_t plain_record_test(const uint8_t *bytes, size_t count, int32_t facilities, int32_t services);
+uint32_t plain_record_test(const uint8_t *bytes, size_t count, int32_t facilities, int32_t services);
 uint32_t plain_open(int32_t *words, size_t count, int32_t facilities, int32_t services, const int32_t limits[6]);
 struct bilzhaan_answer plain_call(int32_t *words, size_t count, const uint8_t *bytes, size_t length);
 

@@ -1,10 +1,15 @@
-/* Bilzhaan for C99 and C++: a half-hour offer book kept in words that the caller lends (document 01).
- * The functions, their numbers and what they ask of the caller. Link with libbilzhaan.a. */
+/* Bilzhaan for C99 and C++11: a half-hour offer book kept in words that the caller lends (document 01).
+ * The functions, their numbers and what they ask of the caller. Link with libbilzhaan.a, which is for x86-64 Linux.
+ * bilzhaan_record.h has inline functions that write records, read answers and give each number's text. */
 #ifndef BILZHAAN_H
 #define BILZHAAN_H
 
 #include <stddef.h>
 #include <stdint.h>
+
+#if !defined(__x86_64__) || defined(_WIN32)
+#error "libbilzhaan.a is for x86-64 Linux"
+#endif
 
 /* What every function keeps
  * - It allocates nothing, has no globals and may run in any number of threads at once, each on a book of its own.
@@ -13,19 +18,25 @@
  *   112 bytes for the record test, by BILZHAAN_BOOK_WORDS for the opening. Never by megawatts, minutes or periods.
  * - Whatever the words and bytes hold, the answer is the one that document 01 gives. A refused call returns zeros
  *   beside its number and leaves every word as it was; a refused opening leaves every word as it was.
+ * - Look-ups (8), totals (9) and whatever is refused store nothing: for them the words may lie in read-only memory.
  *
  * What it asks of the caller
- * - A pointer is not null and is valid for the count beside it, a count of 0 included: pass any valid pointer then.
+ * - A pointer is valid for the count beside it. With a count of 0 it may be null. `limits` always points to six words.
  * - `words` and `limits` are aligned as int32_t is. `bytes` needs no alignment.
- * - The lent words overlap neither the bytes nor the limits, and no one else touches them until the call returns.
+ * - The lent words overlap neither the bytes nor the limits, and no one else touches them until the call returns; but
+ *   look-ups and totals of one book may run side by side while nobody writes it.
  * - Between calls the book's words are kept as the last call left them. They may be copied or moved.
  *
  * The book's words are the host's native 32-bit words, so a stored book is for hosts of the same byte order.
  * A record's words are most significant byte first on every host. */
 
-/* ---- sizes ---- */
+/* ---- versions and sizes ---- */
+
+/* This header's version, 1.0.0: 10,000 times the first number, 100 times the second, and the third. */
+#define BILZHAAN_VERSION 10000
 
 enum {
+    BILZHAAN_BOOK_VERSION = 1,     /* head word 1 of the books that this version opens and reads */
     BILZHAAN_RECORD_BYTES = 112,
     BILZHAAN_ANSWER_WORDS = 24,
     BILZHAAN_LIMITS = 6,
@@ -43,7 +54,7 @@ enum {
 };
 
 /* N, the words that a book for f facilities and s services needs: 64 + 32 f + 16,128 f s. A constant expression where
- * f and s are. For f of 1 to 64 and s of 1 or 5 it is 16,224 to 5,163,072, which a 32-bit size_t holds in bytes too. */
+ * f and s are. For f of 1 to 64 and s of 1 or 5 it is 16,224 to 5,163,072. */
 #define BILZHAAN_BOOK_WORDS(f, s) ((size_t)64 + (size_t)(f) * ((size_t)32 + (size_t)16128 * (size_t)(s)))
 
 /* ---- the record: where each field starts; words are signed 32-bit, most significant byte first ---- */
@@ -118,7 +129,7 @@ enum {
     BILZHAAN_CAPABILITY_WORDS = 17
 };
 
-/* ---- the numbers: 0 is accepted; of those that apply, the lowest is returned ---- */
+/* ---- the numbers, uint32_t everywhere: 0 is accepted; of those that apply, the lowest is returned ---- */
 
 enum {
     BILZHAAN_ACCEPTED = 0,
@@ -150,38 +161,49 @@ enum {
     BILZHAAN_OPENING_REFUSED = 20      /* F, S, words too few, or limits */
 };
 
-/* An answer. Beside a refusal, and for accepted calls 1 to 7, words and sum are zero.
- * Look-up: word 0 is BILZHAAN_STANDING_IN_FORCE or BILZHAAN_VARIATION_IN_FORCE, 1 the proportion, 2 and 3 ramp up and
- * down, 4 to 23 ten pairs (price, quantity); sum is the ten quantities added, tenths of a MW.
- * Total: word 0 counts the facilities with an offer in force, the others are zero; sum is over them. */
+/* An answer. Beside a refusal, and for accepted calls 1 to 7, words and sum are zero. A look-up's sum is its ten
+ * quantities added, tenths of a MW; a total's is over the facilities, and its words 1 to 23 are zero.
+ * Bytes 100 to 103 are padding and hold anything: compare answers by their fields. */
 struct bilzhaan_answer {
     uint32_t number;
-    int32_t words[24];
+    int32_t words[BILZHAAN_ANSWER_WORDS];
     int64_t sum;
+};
+
+/* The words of an answer. */
+enum {
+    BILZHAAN_ANSWER_COUNT = 0,      /* of a total: the facilities with an offer in force */
+    BILZHAAN_ANSWER_IN_FORCE = 0,   /* of a look-up, this and the rest: standing or variation, as below */
+    BILZHAAN_ANSWER_PROPORTION = 1,
+    BILZHAAN_ANSWER_RAMP_UP = 2,
+    BILZHAAN_ANSWER_RAMP_DOWN = 3,
+    BILZHAAN_ANSWER_PAIRS = 4       /* ten pairs: pair i is word 4 + 2i, the price, and 5 + 2i, the quantity */
 };
 
 enum { BILZHAAN_STANDING_IN_FORCE = 1, BILZHAAN_VARIATION_IN_FORCE = 2 };
 
-#if defined(__cplusplus)
-#if __cplusplus >= 201103L
-static_assert(sizeof(struct bilzhaan_answer) == 112, "an answer is 112 bytes");
-#endif
-#elif defined(__STDC_VERSION__) && __STDC_VERSION__ >= 201112L
-_Static_assert(sizeof(struct bilzhaan_answer) == 112, "an answer is 112 bytes");
-#endif
+/* Another layout than the library's doesn't compile. */
+typedef char bilzhaan_layout_of_x86_64[sizeof(size_t) == 8 && sizeof(struct bilzhaan_answer) == 112
+                                       && offsetof(struct bilzhaan_answer, sum) == 104 ? 1 : -1];
 
 #ifdef __cplusplus
 extern "C" {
 #endif
 
+/* The linked library's version, written as BILZHAAN_VERSION is, and that of the books that it opens and reads. */
+uint32_t bilzhaan_version(void);
+int32_t bilzhaan_book_version(void);
+
 /* What a call would refuse by the record alone, for a book of these sizes: 0, 2, 3 or 4; ahead of these 20 where
- * `facilities` isn't 1 to 64 or `services` isn't 1 or 5. For a record that waits in a queue before it is filed. */
-int32_t bilzhaan_record_test(const uint8_t *bytes, size_t count, int32_t facilities, int32_t services);
+ * `facilities` isn't 1 to 64 or `services` isn't 1 or 5. For a record that waits in a queue before it is filed.
+ * (Inside the library its type is int32_t. x86-64 returns both in one register, and 0 to 20 are the same in both.) */
+uint32_t bilzhaan_record_test(const uint8_t *bytes, size_t count, int32_t facilities, int32_t services);
 
 /* Opens a book in the first BILZHAAN_BOOK_WORDS(facilities, services) of `count` words, whatever they held: 0, or 20.
  * Limits in order: lowest and highest energy price, highest price of services 1, 2, 3, 4, in cents per MWh;
  * the last four are given for energy alone too. Words past the book's are never written. */
-uint32_t bilzhaan_open(int32_t *words, size_t count, int32_t facilities, int32_t services, const int32_t limits[6]);
+uint32_t bilzhaan_open(int32_t *words, size_t count, int32_t facilities, int32_t services,
+                       const int32_t limits[BILZHAAN_LIMITS]);
 
 /* One of the nine calls on an opened book, `length` bytes of a record: the number, the 24 words and the sum. */
 struct bilzhaan_answer bilzhaan_call(int32_t *words, size_t count, const uint8_t *bytes, size_t length);

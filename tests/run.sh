@@ -1,6 +1,7 @@
 #!/usr/bin/env bash
-# Builds into target/ctest/ and runs the tests that call the library from C and C++: header and archive, by hand, vectors,
-# random lists. Arguments: the static library, seconds of random lists (20), seed (1). Last line: 'N passed, M failed'.
+# Builds into target/ctest/ and runs the tests that call the library from C and C++: headers and archive, an installed copy, by
+# hand, vectors, random lists. Arguments: the static library, seconds of random lists (20), seed (1).
+# Last line: 'N passed, M failed'.
 set -euo pipefail
 
 [ $# -ge 1 ] || { echo "usage: tests/run.sh LIBRARY.a [SECONDS] [SEED]" >&2; exit 2; }
@@ -65,8 +66,8 @@ trap 'kill "$random" 2>/dev/null || :' EXIT
 symbols() { nm "$library" | awk "NF >= 2 { kind = \$(NF - 1); name = \$NF; if ($1) print name }"; }
 functions() {
     local found
-    found=$(symbols 'kind == "T" && name ~ /^bilzhaan_(call|open|record_test)$/') || return 1
-    [ "$(echo "$found" | wc -l)" -eq 3 ]
+    found=$(symbols 'kind == "T" && name ~ /^bilzhaan_(call|open|record_test|version|book_version)$/') || return 1
+    [ "$(echo "$found" | wc -l)" -eq 5 ]
 }
 calls_nothing() {
     local found
@@ -79,18 +80,51 @@ no_globals() {
     [ -z "$found" ]
 }
 
-echo '#include "bilzhaan.h"' >"$out/include.c"
-check "the header in C99" gcc -std=c99 $warnings -Iinclude -fsyntax-only "$out/include.c"
-check "the header in C11" gcc -std=c11 $warnings -Iinclude -fsyntax-only "$out/include.c"
-check "the header in C++11" g++ -std=c++11 $warnings -Iinclude -fsyntax-only -x c++ "$out/include.c"
+# Succeeds where the compiler refuses the header and says so in the words of $1.
+refused_with() {
+    local words=$1
+    shift
+    if "$@" 2>"$out/refused.txt"; then return 1; fi
+    grep -qF "$words" "$out/refused.txt"
+}
+
+# Each number's text is the page's, "What it means", but for four signs that aren't ASCII.
+texts_of_the_page() {
+    awk -F' [|] ' '/^## / { on = $0 == "## The numbers" } on && /^[|] [0-9]+ [|]/ { print substr($1, 3) "\t" $3 }' \
+        docs/REFUSALS.md | sed 's/≤/<=/g; s/≥/>=/g; s/·/*/g; s/±/+\/-/g' >"$out/texts_of_the_page.txt"
+    "$out/record_header_test" --texts | sed -n '2,21p' >"$out/texts.txt"
+    [ "$(wc -l <"$out/texts.txt")" -eq 20 ] && diff "$out/texts.txt" "$out/texts_of_the_page.txt"
+}
+
+echo '#include "bilzhaan_record.h"' >"$out/include.c"
+strict="$warnings -Wconversion -Wsign-conversion -Wshadow -Iinclude -fsyntax-only"
+check "the headers in C99" gcc -std=c99 $strict "$out/include.c"
+check "the headers in C11" gcc -std=c11 $strict "$out/include.c"
+check "the headers in C++11" g++ -std=c++11 $strict -x c++ "$out/include.c"
+if command -v clang >/dev/null; then
+    check "the headers in clang's C99" clang -std=c99 $strict "$out/include.c"
+    check "the headers in clang's C++11" clang -std=c++11 $strict -x c++ "$out/include.c"
+fi
+check "the header refuses a 32-bit target" refused_with "is for x86-64" \
+    gcc -m32 -ffreestanding -std=c99 -Iinclude -fsyntax-only "$out/include.c"
+check "the header refuses pointers of 32 bits in C99" refused_with bilzhaan_layout_of_x86_64 \
+    gcc -mx32 -ffreestanding -std=c99 -Iinclude -fsyntax-only "$out/include.c"
 check "the archive has the functions of the header" functions
 check "the library calls no allocator, nor anything but memory copies" calls_nothing
 check "the library has no writable globals" no_globals
 
-g++ -std=c++11 $warnings -O2 -Iinclude tests/c/header_test.cpp "$library" -o "$out/header_test"
-check "calls from C++" "$out/header_test"
+g++ -std=c++11 $warnings -O2 -Iinclude tests/c/header_test.cpp "$library" -o "$out/header_cpp_test"
+check "calls from C++" "$out/header_cpp_test"
 
-$c11 tests/c/library_*.c tests/c/check.c "$library" -o "$out/library_test"
+gcc -std=c99 $warnings -O2 -Iinclude tests/c/header_test.c "$library" -o "$out/header_test"
+gcc -std=c99 $warnings -O2 -Iinclude tests/c/record_header_test.c "$library" -o "$out/record_header_test"
+run "$out/header_test"
+run tests/header_mutants.sh "$library"
+run "$out/record_header_test" samples/worked-run.records
+check "the numbers' texts are those of docs/REFUSALS.md" texts_of_the_page
+run tests/installed_test.sh "$library"
+
+$c11 -pthread tests/c/library_*.c tests/c/check.c "$library" -o "$out/library_test"
 $c11 tests/c/vectors_test.c tests/c/list_machine.c bench/plain_book.c "$library" -o "$out/vectors_test"
 
 run "$out/library_test"

@@ -35,7 +35,7 @@ void equal_at(int64_t got, int64_t expected, const char *what, const char *file,
 
 static void stray_touch(int signal_number)
 {
-    static const char message[] = "a call touched memory that it was not lent\n0 passed, 1 failed\n";
+    static const char message[] = "a call touched memory that it was not lent, or wrote where it stores nothing\n0 passed, 1 failed\n";
     (void)signal_number;
     if (write(STDOUT_FILENO, message, sizeof message - 1) < 0)
         _exit(3);
@@ -71,6 +71,16 @@ uint8_t *lent_from_the_start(size_t bytes)
 {
     size_t room;
     return pages_between_guards(bytes, &room);
+}
+
+void allow_writes(const void *lent, size_t bytes, bool allowed)
+{
+    size_t page = (size_t)sysconf(_SC_PAGESIZE);
+    uintptr_t start = (uintptr_t)lent / page * page;
+    if (mprotect((void *)start, (uintptr_t)lent + bytes - start, allowed ? PROT_READ | PROT_WRITE : PROT_READ) != 0) {
+        perror("mprotect");
+        exit(2);
+    }
 }
 
 /* ---- books ---- */
@@ -131,6 +141,21 @@ static bool same_outside(const struct book *b, size_t from, size_t end)
         && memcmp(b->words + end, b->before + end, (b->count - end) * sizeof b->words[0]) == 0;
 }
 
+static bool same_answers(const struct bilzhaan_answer *a, const struct bilzhaan_answer *b)
+{
+    return a->number == b->number && memcmp(a->words, b->words, sizeof a->words) == 0 && a->sum == b->sum;
+}
+
+/* A call that stores nothing answers the same again, from words that can't be written. */
+static void call_read_only(struct book *b, const uint8_t *bytes, size_t length, const struct bilzhaan_answer *first)
+{
+    size_t lent = b->count * sizeof b->words[0];
+    allow_writes(b->words, lent, false);
+    struct bilzhaan_answer again = bilzhaan_call(b->words, b->count, bytes, length);
+    allow_writes(b->words, lent, true);
+    CHECK(same_answers(&again, first));
+}
+
 struct bilzhaan_answer call_bytes(struct book *b, const uint8_t *bytes, size_t length)
 {
     memcpy(b->before, b->words, b->count * sizeof b->words[0]);
@@ -141,6 +166,7 @@ struct bilzhaan_answer call_bytes(struct book *b, const uint8_t *bytes, size_t l
         CHECK(all_zero(&a));
     if (a.number != 0 || which >= BILZHAAN_CALL_LOOK_UP) {
         CHECK(same_outside(b, b->count, b->count));
+        call_read_only(b, bytes, length, &a);
     } else if (which == BILZHAAN_CALL_STANDING || which == BILZHAAN_CALL_VARIATION) {
         int f = bytes[BILZHAAN_AT_FACILITY], s = bytes[BILZHAAN_AT_SERVICE];
         int64_t period = bytes[8] * INT64_C(16777216) + bytes[9] * 65536 + bytes[10] * 256 + bytes[11];

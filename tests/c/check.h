@@ -21,6 +21,9 @@ uint8_t *lent_to_the_end(size_t bytes);
 uint8_t *lent_from_the_start(size_t bytes);
 void name_stray_touches(void);
 
+/* Makes the pages of lent bytes read-only, or writable again. */
+void allow_writes(const void *lent, size_t bytes, bool allowed);
+
 /* A book of its own with generous limits, opened. */
 struct book {
     int32_t *words;
@@ -40,8 +43,8 @@ struct book book_for(int32_t facilities, int32_t services);
 struct book usual_book(int32_t now);
 void open_usual(struct book *b, int32_t now);
 
-/* Calls, and checks what holds of every call: zeros beside a refusal and beside calls 1 to 7, every word as it was after
- * a refusal, a look-up and a total, and no word but one cell's changed by an accepted offer. */
+/* Calls, and checks what holds of every call: zeros beside a refusal and beside calls 1 to 7, no word but one cell's changed
+ * by an accepted offer, every word as it was after a refusal, a look-up and a total, and these again from read-only words. */
 struct bilzhaan_answer call_bytes(struct book *b, const uint8_t *bytes, size_t length);
 struct bilzhaan_answer call(struct book *b, struct record r);
 uint32_t number_of(struct book *b, struct record r);

@@ -62,8 +62,8 @@ static void compare_record_test(struct list *l, struct random *r)
     int32_t f = one_in(r, 3) ? sizes[random_bits(r) % 12] : l->facilities;
     int32_t s = one_in(r, 3) ? sizes[random_bits(r) % 12] : l->services;
     bool good_sizes = f >= 1 && f <= 64 && (s == 1 || s == 5);
-    int32_t expected = good_sizes ? list_machine_record_number(l->bytes, l->length, f, s) : 20;
-    int32_t got = bilzhaan_record_test(l->bytes, l->length, f, s);
+    uint32_t expected = good_sizes ? (uint32_t)list_machine_record_number(l->bytes, l->length, f, s) : 20;
+    uint32_t got = bilzhaan_record_test(l->bytes, l->length, f, s);
     check(l, got == expected, "the record test");
     check(l, plain_record_test(l->bytes, l->length, f, s) == expected, "the plain book's record test");
 }

@@ -1,16 +1,42 @@
-// The header from C++, linked: the record test of a clock record, and a constant expression for a book's words.
-#include "bilzhaan.h"
+// The headers from C++, linked: a constant expression for a book's words, records written, an answer read.
+#include "bilzhaan_record.h"
+
+#include <cstring>
 
 static int32_t words[BILZHAAN_BOOK_WORDS(1, 1)];
+static const size_t count = sizeof words / sizeof words[0];
 
 int main()
 {
-    const uint8_t record[BILZHAAN_RECORD_BYTES] = {'S', 'O', 'B', 0, 1, BILZHAAN_CALL_CLOCK};
-    const int32_t limits[BILZHAAN_LIMITS] = {-1, 1, 1, 1, 1, 1};
+    const int32_t limits[BILZHAAN_LIMITS] = {-1, 100, 1, 1, 1, 1};
+    uint8_t record[BILZHAAN_RECORD_BYTES];
+    bilzhaan_write_clock(record, 7);
     if (bilzhaan_record_test(record, sizeof record, 1, BILZHAAN_SERVICES_ONE) != BILZHAAN_ACCEPTED)
         return 1;
-    if (bilzhaan_open(words, sizeof words / sizeof words[0], 1, 1, limits) != BILZHAAN_ACCEPTED)
+    if (bilzhaan_open(words, count, 1, 1, limits) != BILZHAAN_ACCEPTED)
         return 2;
-    const bilzhaan_answer answer = bilzhaan_call(words, sizeof words / sizeof words[0], record, sizeof record);
-    return answer.number == BILZHAAN_ACCEPTED && answer.sum == 0 ? 0 : 3;
+    if (bilzhaan_call(words, count, record, sizeof record).number != BILZHAAN_ACCEPTED || words[4] != 7)
+        return 3;
+    bilzhaan_capability capability = {};
+    capability.kind = BILZHAAN_GENERATION;
+    capability.max_generation = capability.max_combined = 500;
+    capability.registered[BILZHAAN_ENERGY] = 1;
+    bilzhaan_write_capability(record, &capability);
+    if (bilzhaan_call(words, count, record, sizeof record).number != BILZHAAN_ACCEPTED)
+        return 4;
+    bilzhaan_offer offer = {};
+    offer.period = 100;
+    offer.pairs[9] = bilzhaan_pair{99, 500};
+    bilzhaan_write_variation(record, &offer);
+    if (bilzhaan_call(words, count, record, sizeof record).number != BILZHAAN_ACCEPTED)
+        return 5;
+    bilzhaan_write_look_up(record, 0, BILZHAAN_ENERGY, 100);
+    const bilzhaan_answer answer = bilzhaan_call(words, count, record, sizeof record);
+    if (answer.words[BILZHAAN_ANSWER_IN_FORCE] != BILZHAAN_VARIATION_IN_FORCE || answer.sum != 500)
+        return 6;
+    if (bilzhaan_answered_offer(&answer).pairs[9].price != 99)
+        return 7;
+    if (bilzhaan_version() != BILZHAAN_VERSION || bilzhaan_book_version() != BILZHAAN_BOOK_VERSION)
+        return 8;
+    return std::strcmp(bilzhaan_number_text(answer.number), "Accepted.") == 0 ? 0 : 9;
 }

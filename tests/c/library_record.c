@@ -53,7 +53,7 @@ static bool uses(const struct record *r, int byte)
     return false;
 }
 
-static int32_t test_of(const struct record *r, int32_t facilities, int32_t services)
+static uint32_t test_of(const struct record *r, int32_t facilities, int32_t services)
 {
     return bilzhaan_record_test(r->bytes, sizeof r->bytes, facilities, services);
 }
@@ -101,7 +101,7 @@ static void every_length(void)
         memset(end - length, 0, length);
         memcpy(end - length, good.bytes, kept);
         memcpy(start, end - length, length);
-        int32_t expected = length == BILZHAAN_RECORD_BYTES ? 0 : BILZHAAN_NOT_A_RECORD;
+        uint32_t expected = length == BILZHAAN_RECORD_BYTES ? 0 : BILZHAAN_NOT_A_RECORD;
         EQUAL(bilzhaan_record_test(end - length, length, 1, 1), expected);
         EQUAL(bilzhaan_record_test(start, length, 1, 1), expected);
         uint32_t number = length == BILZHAAN_RECORD_BYTES ? BILZHAAN_NOTHING_IN_FORCE : BILZHAAN_NOT_A_RECORD;

@@ -9,5 +9,6 @@ void test_opening(void);  /* library_opening.c */
 void test_refusals(void); /* library_refusals.c */
 void test_gate(void);     /* library_gate.c */
 void test_damaged(void);  /* library_damaged.c */
+void test_lent(void);     /* library_lent.c */
 
 #endif
