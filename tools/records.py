@@ -14,7 +14,7 @@ from records_brief import brief_lines, brief_rows  # noqa: E402
 from records_explain import CAPABILITY, explain_record  # noqa: E402
 from records_layout import (CALLS, LENGTH, MOST_FACILITIES, MOST_SERVICES, SERVICES, any_book_refuses, build, form_faults, offer_fields,  # noqa: E402
                             read, record_test)
-from records_streams import BadStream, complain, is_terminal, name_of_input, read_input, write_file, write_lines, write_output  # noqa: E402
+from records_streams import BadStream, complain, is_terminal, name_of_input, read_ends, read_input, write_file, write_lines, write_output  # noqa: E402
 
 # Every cell of the largest book, 64 * 5 * 2 * 336, filed once, and more. A line of hex digits has two line ends at most.
 MOST_RECORDS = 250_000
@@ -109,12 +109,12 @@ def append(name, data, as_hex):
     """A record after a torn one, or bytes after hex digits, would never be read as such."""
     length = os.path.getsize(name) if os.path.isfile(name) else 0
     if length:
-        held = read_input(name, max(length, MOST_RECORD_BYTES), 'records')
-        if as_hex and not is_hex(held):
+        start, end = read_ends(name, 64)
+        if as_hex and not is_hex(start):
             raise BadArgument(f'{name} does not hold lines of hex digits: nothing is added (leave out --hex if it holds records)')
-        if as_hex and not held.endswith(b'\n'):
+        if as_hex and not end.endswith(b'\n'):
             raise BadArgument(f'{name} ends inside a line: nothing is added')
-        if not as_hex and is_hex(held):
+        if not as_hex and is_hex(start):
             raise BadArgument(f'{name} holds lines of hex digits: nothing is added (--hex adds to it)')
         if not as_hex and length % LENGTH:
             raise BadArgument(f'{name} has {length} bytes, not whole records of {LENGTH}: nothing is added')
@@ -229,8 +229,8 @@ def wrong_places(records, answers, book):
 def strict_status(wrong):
     """The status of --strict, and its line."""
     if wrong:
-        complain(f"records.py: --strict: wrong {'is' if len(wrong) == 1 else 'are'} {', '.join(wrong[:5])}"
-                 f"{f' and {len(wrong) - 5} more' if len(wrong) > 5 else ''}")
+        more = f' and {len(wrong) - 5} more' if len(wrong) > 5 else ''
+        complain(f"records.py: --strict: not right: {', '.join(wrong[:5])}{more}")
     return 1 if wrong else 0
 
 

@@ -46,7 +46,8 @@ def whole_parts(text, places, message):
     sign, units, decimals = match.group(1), match.group(2), match.group(3) or ''
     if len(decimals) > places:
         raise BadArgument(f"'{text}': {message}")
-    value = number_of_digits(sign, units + decimals.ljust(places, '0'))
+    value = number_of_digits('', units) * 10**places + int(decimals.ljust(places, '0'))
+    value = -value if sign else value
     if not LEAST_WORD <= value <= MOST_WORD:
         raise BadArgument(f"'{text}' is outside {show_parts(LEAST_WORD, places)} to {show_parts(MOST_WORD, places)}, what a record's word can hold")
     return value

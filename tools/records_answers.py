@@ -35,7 +35,7 @@ def look_up_damage(answer):
 def total_damage(answer, facilities):
     if not 0 <= answer.words[0] <= facilities or any(answer.words[1:]):
         return f'a total counts 0 to {facilities} facilities in word 0, its other words are zero'
-    return ''
+    return 'no facility has an offer, and there is a sum' if answer.words[0] == 0 and answer.sum else ''
 
 
 def any_call_damage(answer, facilities):
@@ -85,7 +85,7 @@ def contradiction(number, data, facilities, services):
 def refusal_lines(answer):
     refusal = REFUSALS[answer.number]
     lines = [f'refused with {answer.number}, {refusal.name}; drawn by {refusal.drawn_by}']
-    return lines + aligned([('means', refusal.means), ('to correct', refusal.correct), ('the book', 'is unchanged')])
+    return lines + aligned([('means', refusal.means), ('to correct', refusal.correct), ('the book', 'unchanged')])
 
 
 def look_up_lines(answer, service):

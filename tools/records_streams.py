@@ -48,6 +48,17 @@ def read_input(name, most, what):
     return data
 
 
+def read_ends(name, most):
+    """The first and the last bytes of a file."""
+    try:
+        with open(name, 'rb') as file:
+            start = file.read(most)
+            file.seek(-len(start), os.SEEK_END)
+            return start, file.read(most)
+    except OSError as error:
+        raise BadStream(f'{name}: {why(error)}') from None
+
+
 # ---- writing
 
 def write_output(chunks):
