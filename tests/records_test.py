@@ -483,9 +483,10 @@ class Streams(Tool):
     WRITING = (['sample'], ['sample', '--hex'], ['withdrawal', '--out', '-'], ['explain', SAMPLE], ['explain', '--brief', SAMPLE],
                ['explain', '--strict', '--record', '00'], ['explain', '--answer', '17', '0', '0'], ['--help'], ['explain', '--help'])
 
-    def ended(self, words, text, **streams):
+    def ended(self, words, text, unbuffered='', **streams):
+        """Python's own buffers are there, or not: an empty setting is none."""
         settings = {'stdout': subprocess.PIPE, 'stderr': subprocess.PIPE, 'timeout': 60, 'check': False, **streams}
-        done = subprocess.run([sys.executable, TOOL, *words], **settings)
+        done = subprocess.run([sys.executable, TOOL, *words], env={**os.environ, 'PYTHONUNBUFFERED': unbuffered}, **settings)
         self.assertEqual((done.returncode, done.stderr), (2, f'records.py: {text}\n'.encode()), words)
         self.assertIn(done.stdout, (b'', None))
 
@@ -498,8 +499,15 @@ class Streams(Tool):
         for words in self.WRITING:
             with open('/dev/full', 'wb') as full:
                 self.ended(words, 'standard output: No space left on device', stdout=full)
+            with open('/dev/full', 'wb') as full:
+                self.ended(words, 'standard output: No space left on device', unbuffered='1', stdout=full)
         for option in ('--out', '--append'):
             self.ended(['sample', option, '/dev/full'], '/dev/full: No space left on device')
+
+    def test_output_that_is_taken_in_part(self):
+        for unbuffered in ('', '1'):
+            with tempfile.TemporaryFile() as file:
+                self.ended(['sample'], 'standard output: File too large', unbuffered, stdout=file, preexec_fn=small_files)
 
     def test_a_reader_that_has_gone(self):
         for words in self.WRITING:
@@ -563,7 +571,7 @@ class Streams(Tool):
         with open(os.devnull, 'rb') as nothing:
             for words in (['clock', '--minute', 'x'], ['explain', '/no/such/file'], ['offer']):
                 for streams in ({'preexec_fn': lambda: os.close(2)}, {'stderr': nothing}):
-                    done = subprocess.run([sys.executable, TOOL, *words], stdout=subprocess.PIPE, check=False, **streams)
+                    done = subprocess.run([sys.executable, TOOL, *words], stdout=subprocess.PIPE, check=False, env={**os.environ, 'PYTHONUNBUFFERED': ''}, **streams)
                     self.assertEqual((done.returncode, done.stdout), (2, b''), words)
 
     def test_a_disk_that_fills_up_leaves_no_torn_record(self):

@@ -1,8 +1,10 @@
 """Files and standard streams, read within bounds and written whole. What is closed, full or endless ends the run with one line.
 '-' is standard input where something is read, standard output where something is written."""
+import errno
 import os
 import stat
 import sys
+from itertools import islice
 
 
 class BadStream(Exception):
@@ -61,13 +63,23 @@ def read_ends(name, most):
 
 # ---- writing
 
+def put(write, data):
+    """All of it, also where a write takes only a part, as it does unbuffered."""
+    left = memoryview(data)
+    while left:
+        taken = write(left)
+        if taken is None:
+            raise BlockingIOError(errno.EAGAIN, os.strerror(errno.EAGAIN))
+        left = left[taken:]
+
+
 def write_output(chunks):
     """Standard output takes every chunk, or the run says that it did not."""
     if sys.stdout is None:
         raise BadStream('standard output is closed')
     try:
         for chunk in chunks:
-            sys.stdout.buffer.write(chunk)
+            put(sys.stdout.buffer.write, chunk)
         sys.stdout.buffer.flush()
     except OSError as error:
         forget(sys.stdout)
@@ -75,16 +87,16 @@ def write_output(chunks):
 
 
 def write_lines(lines):
-    write_output(f'{line}\n'.encode() for line in lines)
+    """Many lines a write."""
+    lines = iter(lines)
+    write_output(''.join(f'{line}\n' for line in part).encode() for part in iter(lambda: list(islice(lines, 500)), []))
 
 
 def write_whole(number, data):
     """All of it into an open file; after a failure a regular file has the length that it had."""
     status = os.fstat(number)
     try:
-        left = memoryview(data)
-        while left:
-            left = left[os.write(number, left):]
+        put(lambda part: os.write(number, part), data)
     except OSError:
         if stat.S_ISREG(status.st_mode):
             os.ftruncate(number, status.st_size)
