@@ -137,7 +137,9 @@ class Case:
         elif source == 1:
             words += ['--record', self.chance.choice((SAMPLE[:LENGTH].hex(), self.damaged(SAMPLE[LENGTH:2 * LENGTH]).hex(), '', '5', '534f42', 'x'))]
         elif source == 2:
-            words += self.chance.choice(([], ['-'], [''], ['nothing'], ['.'], ['/dev/null']))
+            words += self.chance.choice(([''], ['nothing'], ['.'], ['/dev/null']))
+        elif source <= 4:
+            words += self.chance.choice(([], ['-']))
         else:
             words.append(self.file(SAMPLE if self.one_in(2) else self.records()))
         words += ['--answers', self.chance.choice(('-', '', self.file(self.answers()), self.file(self.answers())))] if self.one_in(2) else []
@@ -224,7 +226,10 @@ def files_fault(case, status):
             held = file.read()
         if held != data and (status == 2 or ('--out' not in case.words and not held.startswith(data))):
             return f'{name} is changed'
-        if held != data and len(held) % LENGTH and not records.is_hex(held):
+        added = held[len(data):] if '--append' in case.words and held.startswith(data) else b''
+        if added and data and records.is_hex(added) != records.is_hex(data):
+            return f'{name} is of two forms'
+        if added and len(held) % LENGTH and not records.is_hex(added):
             return f'{name} is torn'
     return 'a file is left behind' if status == 2 and set(os.listdir('.')) - set(case.files) else ''
 
@@ -288,7 +293,9 @@ def stream_fault(case, seen):
     while not output and not asked and not case.one_in(20):
         case.words = case.command()
         status, output, _, asked = case.run_inside()
-    names = [case.chance.choice(('data', 'data', *UNREADABLE)), case.chance.choice(('pipe', *LOST)), case.chance.choice(('pipe', 'pipe', 'pipe', 'closed', 'full'))]
+    bad_input = case.one_in(2 if asked else 10)
+    names = [case.chance.choice(UNREADABLE) if bad_input else 'data', 'pipe' if bad_input and asked else case.chance.choice(('pipe', *LOST)),
+             case.chance.choice(('pipe', 'pipe', 'pipe', 'closed', 'full'))]
     if names[1] == 'small' and len(output) <= SMALL:
         names[1] = 'pipe'
     lost = (asked and names[0] in UNREADABLE) or (bool(output) and names[1] in LOST)
