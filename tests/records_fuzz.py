@@ -19,29 +19,34 @@ sys.path.insert(0, os.path.dirname(TOOL))
 
 import records  # noqa: E402
 from records_arguments import COMMANDS  # noqa: E402
+from records_files import is_hex  # noqa: E402
 from records_layout import LENGTH  # noqa: E402
 
 # One case in so many is a process of its own, with streams of its own.
 STREAMS_EVERY = 20
 
-JUNK = ('', '-', '--', '-1', '-50@40', '-1.5MW/min', '-1/00:00', '0', '1', '2', '4', '64', '255', '256', '336', '1000000001', '2147483648', 'x', '9' * 29, '9' * 5000,
-        '0' * 50 + '1', '1e3', '1.', '.5', '1@', '@1', '1@1,', '1@1@1', ',', '=', '%', 'MW', '1.5MW', '0.05MW', '62.5%', 'Mon/02:00', '1/24:00', '//', '\n', 'a\nb', '\r', '\t',
-        '\x1b[1m', '\udcff', '\u0663', '\u00e9', '%s', '{}', 'a b', 'then', '-h', '--help', '--hex', '--out', '--answer', '--strict', '--anyway', '--no-such', 'explain', 'clock',
-        '/no/such/file', '/dev/null', '/dev/full', '.', 'ff' * 112, '534f42')
+JUNK = (
+    '', '-', '--', '-1', '-50@40', '-1.5MW/min', '-1/00:00', '0', '1', '2', '4', '64', '255', '256', '336', '1000000001', '2147483648', 'x', '9' * 29, '9' * 5000,
+    '0' * 50 + '1', '1e3', '1.', '.5', '1@', '@1', '1@1,', '1@1@1', ',', '=', '%', 'MW', '1.5MW', '0.05MW', '62.5%', 'Mon/02:00', '1/24:00', '//',
+    '\n', 'a\nb', '\r', '\t', '\x1b[1m', '\udcff', '\u0663', '\u00e9', '%s', '{}', 'a b', 'then', '-h', '--help', '--hex', '--out', '--answer', '--strict',
+    '--anyway', '--no-such', 'explain', 'clock', '/no/such/file', '/dev/null', '/dev/full', '.', 'ff' * 112, '534f42')
 VALUES = {
     '--facility': ('0', '1', '63', '64', '255'), '--service': ('energy', 'primary', 'regulation', '0', '3', '4'),
     '--period': ('1', '4', '340', '7/02:00', '33333647', '0'), '--slot': ('0', '4', '335', 'Mon/02:00', 'sun/23:30', '336'),
-    '--minute': ('0', '5', '1440', '1/00:00', '1000000000', '-1'), '--periods': ('1', '3', '48', '49'), '--first': ('0', '4', '1/00:00'), '--last': ('4', '40000000'),
-    '--kind': ('generation', 'load', '1', '2', '3', 'surplus', 'shortfall', 'status', '5'), '--registered': ('energy', 'primary,secondary', '0,1,2,3,4', '3'),
+    '--minute': ('0', '5', '1440', '1/00:00', '1000000000', '-1'), '--periods': ('1', '3', '48', '49'),
+    '--first': ('0', '4', '1/00:00'), '--last': ('4', '40000000'),
+    '--kind': ('generation', 'load', '1', '2', '3', 'surplus', 'shortfall', 'status', '5'),
+    '--registered': ('energy', 'primary,secondary', '0,1,2,3,4', '3'),
     '--max-generation': ('1300', '130.0MW', '100000'), '--max-combined': ('800', '80MW'), '--max-ramp-up': ('15', '1.5MW/min', '1000.0MW'),
     '--max-primary-proportion': ('500', '62.5%', '1001'), '--reason': ('0', '6', 'shortfall', 'none', '7'), '--proportion': ('1', '1000', '62.5%', '65536'),
-    '--ramp-up': ('0', '15', '1.5MW', '10000'), '--ramp-down': ('0', '20', '2MW/min'), '--pairs': ('500@4000,200@5000', '0@0', '1@-1,0@0,5@9', '-5@1', '1@2,1@2'),
+    '--ramp-up': ('0', '15', '1.5MW', '10000'), '--ramp-down': ('0', '20', '2MW/min'),
+    '--pairs': ('500@4000,200@5000', '0@0', '1@-1,0@0,5@9', '-5@1', '1@2,1@2'),
     '--mw': ('50.0@40.00,20.0@50.00', '0.1@-0.01', '-50@40', '9999.9@4500'),
     '--call': ('look-up', 'total', 'clock', '3', '9', '77'), '--facilities': ('1', '64', '0', '65'), '--services': ('1', '5', '2'),
 }
 MORE = {
-    'capability': ('--kind', '--max-generation', '--max-combined', '--max-ramp-up', '--max-primary-proportion', '--registered'), 'notice': ('--kind',), 'withdrawal': (),
-    'standing': ('--proportion', '--ramp-up', '--ramp-down', '--pairs', '--mw'), 'variation': ('--reason', '--proportion', '--ramp-up', '--ramp-down', '--pairs', '--mw'),
+    'capability': ('--max-generation', '--max-combined', '--max-ramp-up', '--max-primary-proportion', '--registered'), 'withdrawal': ('--kind',),
+    'standing': ('--proportion', '--ramp-up', '--ramp-down', '--mw'), 'variation': ('--reason', '--proportion', '--ramp-up', '--ramp-down', '--mw'),
 }
 NEEDED = {'capability': ('--kind',), 'notice': ('--kind',), 'standing': ('--pairs',), 'variation': ('--pairs',)}
 
@@ -82,13 +87,15 @@ class Case:
         if self.one_in(8):
             data = bytes(self.chance.randrange(256) for _ in range(self.chance.randint(0, 300)))
         if self.one_in(3):
-            data = b''.join(data[n:n + LENGTH].hex().encode() + self.chance.choice((b'\n', b'\n', b'\n', b'\r\n', b' ', b'')) for n in range(0, len(data), LENGTH))
+            ends = (b'\n', b'\n', b'\n', b'\r\n', b' ', b'')
+            data = b''.join(data[n:n + LENGTH].hex().encode() + self.chance.choice(ends) for n in range(0, len(data), LENGTH))
             data = self.damaged(data) if self.one_in(4) else data
         return data
 
     def answers(self):
         def answer():
-            number, first, total = self.chance.choice((0, 0, self.chance.randint(0, 20))), self.chance.choice((0, 1, 2, 3, -1)), self.chance.choice((0, 700, -5, 10**10))
+            number, first = self.chance.choice((0, 0, self.chance.randint(0, 20))), self.chance.choice((0, 1, 2, 3, -1))
+            total = self.chance.choice((0, 700, -5, 10**10))
             middle = [self.chance.choice((0, 0, 500, 2**31 - 1)) for _ in range(23)] if self.one_in(3) else []
             return ' '.join(map(str, [number, first if number == 0 or self.one_in(5) else 0, *middle, total if number == 0 else 0]))
         lines = [answer() if not self.one_in(60) else self.chance.choice(JUNK) for _ in range(self.chance.choice((0, 1, 9, 9, 9)))]
@@ -214,7 +221,7 @@ def output_fault(words, status, output):
         return 'output beside status 2' if output else ''
     if words[0] == 'explain' or '--help' in words or '-h' in words:
         return '' if output.endswith(b'\n') and output.isascii() else 'an explanation that is no text'
-    if records.is_hex(output):
+    if is_hex(output):
         return '' if all(len(line) == 2 * LENGTH for line in output.decode().split('\n')[:-1]) and output.endswith(b'\n') else 'torn lines'
     return 'torn records' if len(output) % LENGTH else ''
 
@@ -227,9 +234,9 @@ def files_fault(case, status):
         if held != data and (status == 2 or ('--out' not in case.words and not held.startswith(data))):
             return f'{name} is changed'
         added = held[len(data):] if '--append' in case.words and held.startswith(data) else b''
-        if added and data and records.is_hex(added) != records.is_hex(data):
+        if added and data and is_hex(added) != is_hex(data):
             return f'{name} is of two forms'
-        if added and len(held) % LENGTH and not records.is_hex(added):
+        if added and len(held) % LENGTH and not is_hex(added):
             return f'{name} is torn'
     return 'a file is left behind' if status == 2 and set(os.listdir('.')) - set(case.files) else ''
 
@@ -263,8 +270,8 @@ class Opened:
             reader, writer = os.pipe()
             os.close(reader)
             return writer
-        paths = {'closed': (os.devnull, os.O_RDWR), 'full': ('/dev/full', os.O_WRONLY), 'read-only': (os.devnull, os.O_RDONLY), 'write-only': (os.devnull, os.O_WRONLY),
-                 'endless': ('/dev/zero', os.O_RDONLY)}
+        paths = {'closed': (os.devnull, os.O_RDWR), 'full': ('/dev/full', os.O_WRONLY), 'read-only': (os.devnull, os.O_RDONLY),
+                 'write-only': (os.devnull, os.O_WRONLY), 'endless': ('/dev/zero', os.O_RDONLY)}
         return os.open(*paths[name]) if name in paths else subprocess.PIPE
 
     def run(self, words, unbuffered):

@@ -25,7 +25,7 @@ sys.path.insert(0, os.path.dirname(TOOL))
 import records  # noqa: E402
 import records_amounts  # noqa: E402
 import records_layout  # noqa: E402
-from records_answers import contradiction, explain_answer, read_answer  # noqa: E402
+from records_answers import Book, explain_answer, read_answer  # noqa: E402
 from records_arguments import COMMANDS, TOP  # noqa: E402
 from records_brief import brief_lines, brief_rows  # noqa: E402
 from records_explain import CAPABILITY, REASON_TEXTS, command_for, explain_record  # noqa: E402
@@ -930,9 +930,10 @@ class Answers(Tool):
         self.assertEqual(self.explained('--answer 0 0 0 --call 1 --damaged'), 'accepted\n')
 
     def test_which_call_draws_which(self):
-        """Document 01: 5 'calls 3, 4, 5, 8'; 6 the clock; 7 outage, notice, withdrawal; 8 capability; 10 'also calls 8 and 9'; 18 'standing offer'; 19 'call 8'."""
+        """Document 01: 5 'calls 3, 4, 5, 8'; 10 'also calls 8 and 9'; 18 'standing offer'; 19 'call 8'."""
         offer = {9, 10, 11, 12, 13, 14, 15, 16, 17}
-        for call, numbers in {1: {6}, 2: {3, 8}, 3: {3, 5, 18} | offer, 4: {3, 5} | offer, 5: {3, 5, 7}, 6: {7}, 7: {7}, 8: {3, 5, 10, 19}, 9: {3, 10}}.items():
+        for call, numbers in {1: {6}, 2: {3, 8}, 3: {3, 5, 18} | offer, 4: {3, 5} | offer, 5: {3, 5, 7}, 6: {7}, 7: {7},
+                              8: {3, 5, 10, 19}, 9: {3, 10}}.items():
             self.assertEqual({number for number in range(1, 21) if draws(call, number)}, {1, 2, 4} | numbers, call)
 
     def test_more_facilities_than_the_book_has(self):
@@ -985,6 +986,13 @@ class Strict(Tool):
                 file.write(answer)
                 file.flush()
                 self.statuses(f'--record {bytes(data).hex()} --answers {file.name} {sizes}', ', '.join(f'{what} 1' for what in wrong))
+
+    def test_what_no_record_can_be_answered(self):
+        with tempfile.NamedTemporaryFile('w') as file:
+            file.write('0 0 0')
+            file.flush()
+            self.assertTrue(self.explained(f'--record 00 --answers {file.name}').endswith(
+                '\n  answer 0 0 0\n    damaged answer: the record test of this record gives 2\n'))
 
     def test_several(self):
         with tempfile.NamedTemporaryFile() as file:
@@ -1078,9 +1086,8 @@ class Brief(Tool):
                 data[chance.randrange(len(data))] = chance.choice((0, 1, 2, 9, 255, chance.randint(0, 255)))
             pieces = [bytes(data[n:n + 112]) for n in range(0, len(data) - chance.randint(0, 112), 112)]
             answers = [read_answer(f"{chance.randint(0, 20)} {chance.choice((0, 0, 1, 2, 3))} {chance.choice((0, 0, 700))}") for _ in pieces]
-            options = records.parse_run(['explain'])[0]
             for given in (answers, [None] * len(pieces)):
-                lines = brief_lines(brief_rows(pieces, given, records.Book(options)), given is answers)
+                lines = brief_lines(brief_rows(pieces, given, Book()), given is answers)
                 self.assertIn(len(lines) - len(pieces), (1, 2))
                 self.assertTrue(all(line == line.rstrip() and line.isprintable() for line in lines))
 
@@ -1128,9 +1135,8 @@ class Vectors(Tool):
             self.assertTrue(surely == 0 or 0 < number <= surely, (data.hex(), answer, surely))
             self.assertIn(f'F {facilities}, S {services}: {tested}', '\n'.join(explain_record(data, facilities, services)))
             given = read_answer(answer)
-            for known in ((None, None), (facilities, services)):
-                wrong = contradiction(given.number, data, *known)
-                lines = explain_answer(given, *records.call_and_service(data), facilities, wrong)
+            for book in (Book(), Book(facilities, services)):
+                lines = explain_answer(given, *records.call_and_service(data), book.most, book.wrong(data, given))
                 self.assertNotIn('damaged', ' '.join(lines), (data.hex(), answer))
             words = command_for(data)
             if words and place % 5 == 0:
@@ -1153,8 +1159,7 @@ class Vectors(Tool):
             for _, items in itertools.groupby(self.numbered(name), lambda item: item[0]):
                 pieces, answers = zip(*((item[1], read_answer(item[4])) for item in items))
                 short = [answer._replace(words=answer.words[:1]) for answer in answers]
-                book = records.Book(records.parse_run(['explain'])[0])
-                for whole, part in zip(brief_rows(pieces, answers, book), brief_rows(pieces, short, book)):
+                for whole, part in zip(brief_rows(pieces, answers, Book()), brief_rows(pieces, short, Book())):
                     self.assertEqual([pair for pair in whole.pairs if pair[1]], [pair for pair in part.pairs if pair[1]])
                     self.assertEqual(whole[:-2], part[:-2])
                     seen += whole.call == 'look-up' and bool(part.pairs)
@@ -1182,7 +1187,8 @@ class Header(unittest.TestCase):
 
     def test_sizes_and_bounds(self):
         energy, primary = records_layout.offer_fields(0)[1], records_layout.offer_fields(1)[1]
-        self.assertEqual(self.these('RECORD_BYTES', 'FACILITIES_MOST', 'SERVICES_ALL', 'PAIRS_ENERGY', 'PAIRS_OTHER', 'CLOCK_LAST', 'NOTICE_PERIOD_LAST', 'LIMIT_LARGEST'),
+        self.assertEqual(self.these('RECORD_BYTES', 'FACILITIES_MOST', 'SERVICES_ALL', 'PAIRS_ENERGY', 'PAIRS_OTHER', 'CLOCK_LAST',
+                                    'NOTICE_PERIOD_LAST', 'LIMIT_LARGEST'),
                          [records_layout.LENGTH, records_layout.MOST_FACILITIES, records_layout.MOST_SERVICES, energy, primary, records_layout.LAST_CLOCK,
                           records_layout.LAST_NOTICE_PERIOD, records_layout.LARGEST_LIMIT])
         self.assertEqual([record_test(build(1), 1, services)[0] for services in self.these('SERVICES_ONE', 'SERVICES_ALL')], [0, 0])

@@ -1,25 +1,18 @@
 #!/usr/bin/env python3
 """Records for people: makes the 112-byte records of document 01's nine calls from words, and explains records and answers.
 It files nothing: give what it writes to the program or the gateway. Python 3.8 or later, and its standard library alone."""
-import os
-import re
 import sys
 
 sys.dont_write_bytecode = True
 
 from records_amounts import BadArgument, within  # noqa: E402
-from records_answers import contradiction, damage, explain_answer, read_answer  # noqa: E402
+from records_answers import Book, damage, explain_answer, read_answer  # noqa: E402
 from records_arguments import HelpAsked, parse_run  # noqa: E402
 from records_brief import brief_lines, brief_rows  # noqa: E402
 from records_explain import CAPABILITY, explain_record  # noqa: E402
-from records_layout import (CALLS, LENGTH, MOST_FACILITIES, MOST_SERVICES, SERVICES, any_book_refuses, build, form_faults, offer_fields,  # noqa: E402
-                            read, record_test)
-from records_streams import BadStream, complain, is_terminal, name_of_input, read_ends, read_input, write_file, write_lines, write_output  # noqa: E402
-
-# Every cell of the largest book, 64 * 5 * 2 * 336, filed once, and more. A line of hex digits has two line ends at most.
-MOST_RECORDS = 250_000
-MOST_RECORD_BYTES = (2 * LENGTH + 2) * MOST_RECORDS
-MOST_ANSWER_BYTES = 320 * MOST_RECORDS
+from records_files import append_records, hex_bytes, read_records, read_answers  # noqa: E402
+from records_layout import CALLS, LENGTH, SERVICES, any_book_refuses, build, form_faults, offer_fields, read, record_test  # noqa: E402
+from records_streams import BadStream, complain, is_terminal, write_file, write_lines, write_output  # noqa: E402
 
 # Document 01's worked run.
 SAMPLE = '''\
@@ -93,103 +86,32 @@ def write_records(records, run):
     if where.out not in (None, '-'):
         write_file(where.out, data, 'wb')
     elif where.append not in (None, '-'):
-        append(where.append, data, as_hex)
+        append_records(where.append, data, as_hex)
     elif is_terminal(sys.stdout) and not as_hex and not where.terminal:
         raise BadArgument('records are bytes and this is a terminal: give --hex, --out FILE, --append FILE or --terminal')
     else:
         write_output([data])
 
 
-def is_hex(data):
-    """Lines of hex digits, as --hex writes them: no record of version 1 starts with six digits."""
-    return re.match(rb'\s*([0-9A-Fa-f]{2}\s*){3}', data) is not None
+# ---- explaining
 
-
-def append(name, data, as_hex):
-    """A record after a torn one, or bytes after hex digits, would never be read as such."""
-    length = os.path.getsize(name) if os.path.isfile(name) else 0
-    if length:
-        start, end = read_ends(name, 64)
-        if as_hex and not is_hex(start):
-            raise BadArgument(f'{name} does not hold lines of hex digits: nothing is added (leave out --hex if it holds records)')
-        if as_hex and not end.endswith(b'\n'):
-            raise BadArgument(f'{name} ends inside a line: nothing is added')
-        if not as_hex and is_hex(start):
-            raise BadArgument(f'{name} holds lines of hex digits: nothing is added (--hex adds to it)')
-        if not as_hex and length % LENGTH:
-            raise BadArgument(f'{name} has {length} bytes, not whole records of {LENGTH}: nothing is added')
-    write_file(name, data, 'ab')
-
-
-# ---- what is to be explained
-
-def hex_bytes(text, what):
-    try:
-        return bytes.fromhex(text)
-    except ValueError:
-        raise BadArgument(f'{what}: not pairs of hex digits') from None
-
-
-def split_records(data, whole, what):
-    """Records one after another, or a line of hex digits each; `whole` is one of any length."""
-    if not is_hex(data):
-        return [data] if whole else [data[start:start + LENGTH] for start in range(0, len(data), LENGTH)]
-    text = data.decode('ascii', 'replace')
-    if whole:
-        return [hex_bytes(text, what)]
-    return [hex_bytes(line, f'{what}, line {number}') for number, line in enumerate(text.split('\n'), 1) if line.strip()]
-
-
-def records_to_explain(options):
-    if options.record is not None:
+def check_sources(options):
+    """Each thing to be explained is given once, and from one place."""
+    if options.answer is not None:
+        if options.file is not None or options.record is not None or options.answers is not None or options.whole or options.brief:
+            raise BadArgument('explain: --answer stands alone, or with --call')
+        if options.call is not None and options.call not in CALLS and not options.damaged:
+            raise BadArgument(f'explain: there is no call {options.call}: calls are 1 to 9 (--damaged explains it all the same)')
+    elif options.call is not None or options.damaged:
+        raise BadArgument('explain: --call and --damaged go with --answer')
+    elif options.record is not None:
         if options.file is not None or options.whole:
             raise BadArgument('explain: --record stands without FILE and --whole')
-        return [hex_bytes(options.record, '--record')]
-    if options.file is None and is_terminal(sys.stdin):
-        raise BadArgument('explain: nothing to explain: give FILE, --record HEX or --answer N N N')
-    name = options.file or '-'
-    records = split_records(read_input(name, MOST_RECORD_BYTES, 'records'), options.whole, name_of_input(name))
-    if len(records) > MOST_RECORDS:
-        raise BadStream(f'{name_of_input(name)} has no end, or is no file of records: more than {MOST_RECORDS} records')
-    return records
-
-
-def answers_to_explain(options, count):
-    """The answers as they stand and as read, one for each record."""
-    if options.answers is None:
-        return [(None, None)] * count
-    if options.answers == '-' and options.file in (None, '-') and options.record is None:
+    elif options.answers == '-' and options.file in (None, '-'):
         raise BadArgument('explain: standard input cannot hold the records and the answers')
-    name = name_of_input(options.answers)
-    lines = read_input(options.answers, MOST_ANSWER_BYTES, 'answers').decode('ascii', 'replace').split('\n')
-    lines = lines[:-1] if lines[-1] == '' else lines
-    if len(lines) != count:
-        raise BadArgument(f'{name} has {len(lines)} answers, and there are {count} records')
-    answers = []
-    for number, line in enumerate(lines, 1):
-        try:
-            answers.append((' '.join(line.split()), read_answer(line)))
-        except BadArgument as error:
-            raise BadArgument(f'{name}, line {number}: {error}') from None
-    return answers
+    elif options.file is None and is_terminal(sys.stdin):
+        raise BadArgument('explain: nothing to explain: give FILE, --record HEX or --answer N N N')
 
-
-class Book:
-    """What is known of the book: F and S, or the largest where they are not given."""
-
-    def __init__(self, options):
-        self.given = options.facilities, options.services
-        self.facilities = MOST_FACILITIES if options.facilities is None else options.facilities
-        self.services = MOST_SERVICES if options.services is None else options.services
-        self.most = self.facilities if 1 <= self.facilities <= MOST_FACILITIES else MOST_FACILITIES
-
-    def wrong(self, data, answer):
-        """Why no such book gives this answer to this record; '' if one may."""
-        call = data[5] if not form_faults(data) else None
-        return contradiction(answer.number, data, *self.given) or damage(answer, call, self.most)
-
-
-# ---- explaining
 
 def call_and_service(data):
     if form_faults(data):
@@ -206,16 +128,6 @@ def whole_lines(records, answers, book):
         if answer is not None:
             yield f'  answer {line}'
             yield from ('    ' + text for text in explain_answer(answer, *call_and_service(data), book.most, book.wrong(data, answer)))
-
-
-def one_answer(options):
-    """Lines for --answer, and whether it is damaged."""
-    if options.file is not None or options.record is not None or options.answers is not None or options.whole or options.brief:
-        raise BadArgument('explain: --answer stands alone, or with --call')
-    if options.call is not None and options.call not in CALLS and not options.damaged:
-        raise BadArgument(f'explain: there is no call {options.call}: calls are 1 to 9 (--damaged explains it all the same)')
-    answer, book = read_answer(' '.join(options.answer)), Book(options)
-    return explain_answer(answer, options.call, None, book.most), bool(damage(answer, options.call, book.most))
 
 
 def wrong_places(records, answers, book):
@@ -235,16 +147,15 @@ def strict_status(wrong):
 
 
 def explain(options):
-    """Everything is read before anything is written."""
+    """The exit status. Everything is read before anything is written."""
+    check_sources(options)
+    book = Book(options.facilities, options.services)
     if options.answer is not None:
-        lines, is_wrong = one_answer(options)
-        write_lines(lines)
-        return strict_status(['the answer'] if is_wrong and options.strict else [])
-    if options.call is not None or options.damaged:
-        raise BadArgument('explain: --call and --damaged go with --answer')
-    book = Book(options)
-    records = records_to_explain(options)
-    answers = answers_to_explain(options, len(records))
+        answer = read_answer(' '.join(options.answer))
+        write_lines(explain_answer(answer, options.call, None, book.most))
+        return strict_status(['the answer'] if options.strict and damage(answer, options.call, book.most) else [])
+    records = [hex_bytes(options.record, '--record')] if options.record is not None else read_records(options.file or '-', options.whole)
+    answers = read_answers(options.answers, len(records)) if options.answers is not None else [(None, None)] * len(records)
     if options.brief:
         write_lines(brief_lines(brief_rows(records, [answer for _, answer in answers], book), options.answers is not None))
     else:

@@ -3,7 +3,7 @@ from collections import namedtuple
 
 from records_amounts import LEAST_WORD, MOST_WORD, BadArgument, show_mw, whole, within
 from records_explain import CALL_TEXTS, aligned, offer_rows
-from records_layout import CALLS, MOST_FACILITIES, MOST_SERVICES, record_test
+from records_layout import CALLS, MOST_FACILITIES, MOST_SERVICES, form_faults, record_test
 from records_refusals import REFUSALS, draws
 
 Answer = namedtuple('Answer', 'number words sum')
@@ -80,6 +80,21 @@ def contradiction(number, data, facilities, services):
     return '' if number in may_be else f'the record test of this record gives {tested}'
 
 
+class Book:
+    """What is known of the book: its F and S, None where they are not given; the record test takes the largest book then."""
+
+    def __init__(self, facilities=None, services=None):
+        self.given = facilities, services
+        self.facilities = MOST_FACILITIES if facilities is None else facilities
+        self.services = MOST_SERVICES if services is None else services
+        self.most = self.facilities if 1 <= self.facilities <= MOST_FACILITIES else MOST_FACILITIES
+
+    def wrong(self, data, answer):
+        """Why no such book gives this answer to this record; '' if one may."""
+        call = None if form_faults(data) else data[5]
+        return contradiction(answer.number, data, *self.given) or damage(answer, call, self.most)
+
+
 # ---- lines
 
 def refusal_lines(answer):
@@ -125,6 +140,7 @@ def answer_lines(answer, call, service, facilities):
 
 
 def explain_answer(answer, call=None, service=None, facilities=MOST_FACILITIES, wrong=''):
-    """Lines for one answer; `wrong` is what the record says against it."""
-    wrong = damage(answer, call, facilities) or wrong
-    return answer_lines(answer, call, service, facilities) + ([f'damaged answer: {wrong}'] if wrong else [])
+    """Lines for one answer; `wrong` is what its record says against it."""
+    damaged = damage(answer, call, facilities)
+    lines = [] if wrong and not damaged and answer.number == 0 else answer_lines(answer, call, service, facilities)
+    return lines + ([f'damaged answer: {damaged or wrong}'] if damaged or wrong else [])
