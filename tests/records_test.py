@@ -1076,6 +1076,7 @@ class Brief(Tool):
         self.assertTrue(self.table(line, ['0 0 0', '0 1 6'])[-1].endswith('standing  0.6'))
         self.assertTrue(self.table(line, ['17 0 0', '0 1 5'])[-1].endswith('standing    0.5'))
         self.assertTrue(self.table(line, ['0 0 0', '0 2 5'])[-1].endswith('variation  0.5'))
+        self.assertTrue(self.table(line.replace(' then ', ' then withdrawal then '), ['0 0 0', '0 9 9', '0 1 5'])[-1].endswith('standing  0.5'))
 
     def test_one_line_each_whatever_the_bytes(self):
         chance = random.Random(7)

@@ -200,7 +200,7 @@ def amount_of(option):
 def add_explain_options(parser):
     parser.add_argument('file', type=input_name, nargs='?', metavar='FILE',
                         help='records one after another, or lines of hex digits; - or nothing for standard input')
-    parser.add_argument('--brief', action='store_true', help='one line a record, in columns')
+    parser.add_argument('--brief', action='store_true', help='one line a record with its answer, in columns')
     parser.add_argument('--answers', type=input_name, metavar='FILE', action=Once, help='answers, a line for each record')
     parser.add_argument('--facilities', type=word, action=Once, metavar='F', help="the book's F, 64 if left out")
     parser.add_argument('--services', type=word, action=Once, metavar='S', help="the book's S, 5 if left out")

@@ -113,11 +113,13 @@ class Filings:
 
 
 def with_filed_pairs(rows, records, answers):
-    """An answer of three numbers has no pairs: they are those of the filing before it."""
+    """An answer of three numbers has no pairs: they are those of the filing before it, while every answer is sound."""
     filings = Filings()
     for row, data, answer in zip(rows, records, answers):
         if row.answer == 'accepted':
             filings.take(read(data))
+        if row.answer == 'damaged':
+            filings = Filings()
         if row.answer in ('standing', 'variation') and len(answer.words) == 1:
             row = row._replace(pairs=filings.pairs(read(data), answer))
         yield row
