@@ -981,7 +981,8 @@ class Strict(Tool):
                 (right, '0 1 5', '--facilities 3 --services 5', ['record', 'answer']), (right, '3 0 0', '--facilities 3 --services 5', ['record']),
                 (right[:-1], '2 0 0', '', ['record']), (right[:-1], '0 1 5', '', ['record', 'answer']), (right[:-1], '1 0 0', '', ['record']),
                 (stray, '4 0 0', '', ['record']), (stray, '3 0 0', '', ['record']), (stray, '0 1 5', '', ['record', 'answer']),
-                (stray, '3 0 0', '--facilities 64 --services 5', ['record', 'answer'])):
+                (stray, '3 0 0', '--facilities 64 --services 5', ['record', 'answer']),
+                (right, '0 1 5', '--services 2', ['record']), (right[:-1], '0 0 0', '--services 2', ['record', 'answer'])):
             with tempfile.NamedTemporaryFile('w') as file:
                 file.write(answer)
                 file.flush()

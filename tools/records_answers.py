@@ -3,7 +3,7 @@ from collections import namedtuple
 
 from records_amounts import LEAST_WORD, MOST_WORD, BadArgument, show_mw, whole, within
 from records_explain import CALL_TEXTS, aligned, offer_rows
-from records_layout import CALLS, MOST_FACILITIES, MOST_SERVICES, form_faults, record_test
+from records_layout import CALLS, MOST_FACILITIES, MOST_SERVICES, are_sizes, form_faults, record_test
 from records_refusals import REFUSALS, draws
 
 Answer = namedtuple('Answer', 'number words sum')
@@ -72,7 +72,7 @@ def contradiction(number, data, facilities, services):
     then 2 is sure, 3 is where no book has the facility or service, and in a smaller book 3 may come before 4."""
     known = facilities is not None and services is not None
     tested, _ = record_test(data, MOST_FACILITIES if facilities is None else facilities, MOST_SERVICES if services is None else services)
-    if number == 1 or tested == 20:
+    if number == 1:
         return ''
     may_be = {tested} if known or tested != 4 else {3, 4}
     if tested == 0:
@@ -81,13 +81,15 @@ def contradiction(number, data, facilities, services):
 
 
 class Book:
-    """What is known of the book: its F and S, None where they are not given; the record test takes the largest book then."""
+    """What is known of the book: F and S for the record test, the largest where they are not given; and what follows for answers,
+    which is nothing where no book has such an F and S."""
 
     def __init__(self, facilities=None, services=None):
-        self.given = facilities, services
         self.facilities = MOST_FACILITIES if facilities is None else facilities
         self.services = MOST_SERVICES if services is None else services
-        self.most = self.facilities if 1 <= self.facilities <= MOST_FACILITIES else MOST_FACILITIES
+        there_is = are_sizes(self.facilities, self.services)
+        self.given = (facilities, services) if there_is else (None, None)
+        self.most = self.facilities if there_is else MOST_FACILITIES
 
     def wrong(self, data, answer):
         """Why no such book gives this answer to this record; '' if one may."""

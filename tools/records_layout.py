@@ -111,9 +111,13 @@ def stray_faults(data):
     return [f'byte {place} ({field_at(place)}) is {data[place]}, unused and not zero' for place in stray_bytes(data)]
 
 
+def are_sizes(facilities, services):
+    return 1 <= facilities <= MOST_FACILITIES and services in (1, MOST_SERVICES)
+
+
 def record_test(data, facilities, services):
     """The number 0, 2, 3, 4 or 20, and what draws it; 20 comes first."""
-    if not 1 <= facilities <= MOST_FACILITIES or services not in (1, MOST_SERVICES):
+    if not are_sizes(facilities, services):
         return 20, [f'F {facilities}, S {services}: F is 1 to 64 and S is 1 or 5']
     faults = form_faults(data)
     if faults:
