@@ -545,6 +545,27 @@ class Streams(Tool):
             self.ended(['explain'], 'standard input: Bad file descriptor', stdin=nothing)
         self.ended(['explain', HERE], f'{HERE}: Is a directory')
 
+    def test_streams_that_do_not_wait(self):
+        """A part of the input is not taken for the whole, nor a part of the output given for it."""
+        for held in (b'', self.made('sample')[:336]):
+            ours, theirs = os.pipe()
+            os.set_blocking(ours, False)
+            os.write(theirs, held)
+            self.ended(['explain'], 'standard input: Resource temporarily unavailable', stdin=ours)
+            os.close(theirs)
+            os.close(ours)
+        for unbuffered in ('', '1'):
+            ours, theirs = os.pipe()
+            os.set_blocking(theirs, False)
+            with contextlib.suppress(BlockingIOError):
+                while True:
+                    os.write(theirs, bytes(512))
+            done = subprocess.run([sys.executable, TOOL, 'sample'], stdout=theirs, stderr=subprocess.PIPE,
+                                  env={**os.environ, 'PYTHONUNBUFFERED': unbuffered}, check=False)
+            self.assertEqual((done.returncode, done.stderr.count(b'\n'), done.stderr[:28]), (2, 1, b'records.py: standard output:'))
+            os.close(theirs)
+            os.close(ours)
+
     @unittest.skipUnless(os.path.exists('/dev/zero'), 'no /dev/zero here')
     def test_zeros_without_end(self):
         text = 'has no end, or is no file of records: more than 56500000 bytes'

@@ -15,6 +15,10 @@ def why(error):
     return error.strerror or str(error)
 
 
+def not_yet():
+    return BlockingIOError(errno.EAGAIN, os.strerror(errno.EAGAIN))
+
+
 def is_terminal(stream):
     return stream is not None and stream.isatty()
 
@@ -33,16 +37,36 @@ def name_of_input(name):
     return 'standard input' if name == '-' else name
 
 
+def does_wait(stream):
+    """False for a stream that says that it has nothing yet, rather than wait."""
+    try:
+        return os.get_blocking(stream.fileno())
+    except OSError:
+        return True
+
+
+def read_up_to(stream, most):
+    """A stream that does not wait has ended only when it says so."""
+    data = b''
+    while True:
+        part = stream.read(most - len(data))
+        if part is None:
+            raise not_yet()
+        data += part
+        if not part or len(data) == most or does_wait(stream):
+            return data
+
+
 def read_input(name, most, what):
     """All bytes of a file, or of standard input; more than `most` are never read."""
     try:
         if name != '-':
             with open(name, 'rb') as file:
-                data = file.read(most + 1)
+                data = read_up_to(file, most + 1)
         elif sys.stdin is None:
             raise BadStream('standard input is closed')
         else:
-            data = sys.stdin.buffer.read(most + 1)
+            data = read_up_to(sys.stdin.buffer, most + 1)
     except OSError as error:
         raise BadStream(f'{name_of_input(name)}: {why(error)}') from None
     if len(data) > most:
@@ -69,7 +93,7 @@ def put(write, data):
     while left:
         taken = write(left)
         if taken is None:
-            raise BlockingIOError(errno.EAGAIN, os.strerror(errno.EAGAIN))
+            raise not_yet()
         left = left[taken:]
 
 
