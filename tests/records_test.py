@@ -1,11 +1,15 @@
-"""Tests of tools/records.py: its bytes against hex written by hand, amounts, bad arguments, explanations, the vectors; and docs/REFUSALS.md's sums.
+"""Tests of tools/records.py: its bytes against hex written by hand, amounts, bad arguments, streams, explanations, the vectors;
+and that its words are those of include/bilzhaan.h and docs/REFUSALS.md, whose sums are worked out again.
 Run it directly, or with python3 -m unittest tests/records_test.py."""
 import contextlib
 import io
+import itertools
 import os
 import pty
 import random
 import re
+import resource
+import shutil
 import subprocess
 import sys
 import tempfile
@@ -20,9 +24,13 @@ sys.path.insert(0, os.path.dirname(TOOL))
 
 import records  # noqa: E402
 import records_amounts  # noqa: E402
+import records_layout  # noqa: E402
+from records_answers import Book, explain_answer, read_answer  # noqa: E402
 from records_arguments import COMMANDS, TOP  # noqa: E402
-from records_explain import REFUSALS, command_for, explain_answer, explain_record  # noqa: E402
-from records_layout import any_book_refuses, build, record_test  # noqa: E402
+from records_brief import brief_lines, brief_rows  # noqa: E402
+from records_explain import CAPABILITY, REASON_TEXTS, command_for, explain_record  # noqa: E402
+from records_layout import any_book_refuses, build, read, record_test  # noqa: E402
+from records_refusals import REFUSALS, draws  # noqa: E402
 
 # Document 01, "Cases": "Output whole".
 PRINTED = ['0 0 0', '0 0 0', '0 1 700', '0 0 0', '0 2 300', '0 1 300', '10 0 0', '0 0 0', '0 1 700']
@@ -150,7 +158,7 @@ class WorkedRun(Tool):
         self.assertEqual([words for _, words in answers], [
             'accepted', 'accepted', 'the standing offer is in force, 70.0 MW in all', 'accepted', 'the variation is in force, 30.0 MW in all',
             '1 facility has an offer in force, 30.0 MW in all',
-            'refused with 10, drawn by the coordinator or reader: slot outside 0 to 335, or the period has begun or is past the horizon',
+            'refused with 10, period refused; drawn by the coordinator or reader',
             'accepted', 'the standing offer is in force, 70.0 MW in all'])
         self.assertEqual(text.count('F 1, S 1: 0, passes'), 9)
 
@@ -203,6 +211,9 @@ class BadArguments(Tool):
         ('clock --minute 1_000', "'1_000' is not a whole number"),
         ('clock --minute ٣', 'is not a whole number'),
         ('clock --minute 2147483648', 'is outside -2147483648 to 2147483647'),
+        ('clock --minute ' + '1234567890' * 3, '1' + '234567890' + '1234567890' * 2 + ' is outside -2147483648 to 2147483647'),
+        ('clock --minute ' + '9' * 5000, 'a number of 5000 digits, 9999999999.., is outside every range'),
+        ('clock --minute -1/00:00', 'day -1 is outside 0 to'),
         ('clock --minute 1000000001', 'refuses this with 6'),
         ('clock --minute -1', 'refuses this with 6'),
         ('clock --minute 1/24:00', 'is not a time of day'),
@@ -240,7 +251,12 @@ class BadArguments(Tool):
         (OFFER + '--mw 50.0@nan', "'nan' is not a decimal number"),
         (OFFER + '--mw 50.0@1e2', "'1e2' is not a decimal number"),
         (OFFER + '--mw 50.0@4,500.00', "'500.00' is not QUANTITY@PRICE"),
-        (OFFER + '--mw 50.0@99999999999.00', 'is outside'),
+        (OFFER + '--mw 50.0@99999999999.00', "'99999999999.00' is outside -21474836.48 to 21474836.47"),
+        (OFFER + '--mw 50.0@' + '1234567890' * 3 + '.00', 'is outside -21474836.48 to 21474836.47'),
+        (OFFER + '--mw -50@40', 'refuses this with 11 or a lower number: a quantity is outside 0.0 to 9999.9 MW'),
+        (OFFER + '--mw -50.0@40.00,1@50', 'a quantity is outside 0.0 to 9999.9 MW'),
+        (OFFER + '--pairs -500@4000', 'a quantity is outside 0.0 to 9999.9 MW'),
+        (OFFER + '--pairs 1@1 --ramp-up -1.5MW', 'a ramp rate is outside 0.0 to 999.9 MW/min'),
         (OFFER + '--pairs ' + ','.join(f'1@{n}' for n in range(1, 12)), '11 pairs, and an offer for energy has 10'),
         (OFFER + '--pairs 1@1 --proportion 500', 'an offer for energy has no proportion'),
         (OFFER + '--pairs 1@1 --ramp-up -1', 'refuses this with 14'),
@@ -293,7 +309,17 @@ class BadArguments(Tool):
         ('explain --answer 0 x 0', "'x' is not a whole number"),
         ('explain --answer 0 2147483648 0', 'is outside'),
         ('explain --answer 0 1 700 --call clock --record 00', '--answer stands alone'),
-        ('explain --record 00 --call clock', '--call goes with --answer'),
+        ('explain --record 00 --call clock', '--call and --damaged go with --answer'),
+        ('explain --record 00 --damaged', '--call and --damaged go with --answer'),
+        ('explain --record 00 file', '--record stands without FILE and --whole'),
+        ('explain --record 00 --whole', '--record stands without FILE and --whole'),
+        ('explain --answer 0 0 0 --brief', '--answer stands alone'),
+        ('explain --answer 0 0 0 --answers x', '--answer stands alone'),
+        ('explain --answer 0 0 0 --call 256', 'call 256 is outside 0 to 255'),
+        ('explain --answer 0 0 0 --call lookup', "'lookup' is no call: clock, capability"),
+        ('explain --answers -', 'standard input cannot hold the records and the answers'),
+        ('explain - --answers -', 'standard input cannot hold the records and the answers'),
+        ('explain --record 00 --facilities 1 --facilities 1', '--facilities is given twice'),
         ('explain --record 00 --facilities one', "'one' is not a whole number"),
     )
 
@@ -331,18 +357,25 @@ class BadArguments(Tool):
 class Help(Tool):
     def test_each_command_has_help(self):
         for name in [''] + list(COMMANDS) + ['sample', 'explain']:
-            with self.assertRaises(SystemExit) as stop:
-                with contextlib.redirect_stdout(io.StringIO()) as text:
-                    records.main([name, '--help'] if name else ['--help'])
-            self.assertEqual(stop.exception.code, 0)
-            self.assertIn(f'usage: records.py {name}'.strip(), text.getvalue())
+            for option in ('--help', '-h'):
+                text = self.made(f'{name} {option}').decode()
+                self.assertIn(f'usage: records.py {name}'.strip(), text)
+                self.assertLessEqual(text.count('\n'), 40, name)
+
+    def test_one_screen(self):
+        lines = self.made('--help').decode().splitlines()
+        self.assertLessEqual(len(lines), 40)
+        self.assertLessEqual(max(map(len, lines)), 96)
+
+    def test_it_says_the_status_of_an_early_end(self):
+        self.assertIn('else 2, with one line on\nstandard error, also where a reader such as head closes the pipe before all is written', TOP)
 
     def test_its_examples_work(self):
         lines = re.findall(r'^  records.py (.*)$', TOP.replace('\\\n', ' '), re.M)
         self.assertEqual(len(lines), 6)
         for line in lines:
             words = re.sub(r'(--append|>) \S+', '', line).split()
-            if words != ['explain', 'day.records']:
+            if 'day.records' not in words:
                 self.assertTrue(self.made(' '.join(words)), line)
 
 
@@ -377,12 +410,44 @@ class Writing(Tool):
         self.assertIn('111 bytes, not whole records', self.refused(f'withdrawal --append {self.file}'.split()))
         self.assertEqual(contents(self.file), bytes(111))
 
-    @unittest.skipUnless(os.path.exists('/dev/full'), 'no /dev/full here')
-    def test_a_full_disk(self):
-        for words in (['sample'], ['explain', os.path.join(ROOT, 'samples', 'worked-run.records')]):
-            with open('/dev/full', 'wb') as full:
-                done = subprocess.run([sys.executable, TOOL, *words], stdout=full, stderr=subprocess.PIPE, check=False)
-            self.assertEqual((done.returncode, done.stderr), (2, b'records.py: standard output: No space left on device\n'))
+    def test_an_empty_name_is_an_error(self):
+        self.assertIn('--out: an empty name', self.refused(['withdrawal', '--out', '']))
+        self.assertIn('--append: an empty name', self.refused(['withdrawal', '--append', '']))
+        self.assertIn('--out: an empty name', self.refused(['withdrawal', '--out=']))
+        self.assertIn('FILE: an empty name', self.refused(['explain', '']))
+        self.assertIn('--answers: an empty name', self.refused(['explain', self.file, '--answers', '']))
+
+    def test_a_dash_is_standard_output(self):
+        before = os.getcwd()
+        os.chdir(self.folder.name)
+        self.addCleanup(os.chdir, before)
+        for option in ('--out', '--append'):
+            self.assertEqual(self.made(f'withdrawal {option} -'), self.made('withdrawal'))
+            self.assertEqual(self.made(f'withdrawal --hex {option} -'), self.made('withdrawal --hex'))
+        self.assertEqual(os.listdir('.'), [])
+        self.assertIn('say once', self.refused('withdrawal --out - then withdrawal --out -'.split()))
+
+    def test_hex_and_bytes_are_not_mixed(self):
+        for first, second, text in (('', '--hex', 'does not hold lines of hex digits'), ('--hex', '', 'holds lines of hex digits')):
+            # 112 lines of 225 characters are also whole records' bytes.
+            for many in (1, 112):
+                self.made(' then '.join(['withdrawal'] * many) + f' {first} --out {self.file}')
+                before = contents(self.file)
+                self.assertIn(text, self.refused(f'withdrawal {second} --append {self.file}'.split()))
+                self.assertEqual(contents(self.file), before)
+                self.made(f'withdrawal {first} --append {self.file}')
+                self.assertEqual(contents(self.file), before + self.made(f'withdrawal {first}'))
+
+    def test_nothing_is_added_to_a_torn_line(self):
+        self.made(f'withdrawal --hex --out {self.file}')
+        os.truncate(self.file, 224)
+        self.assertIn('ends inside a line', self.refused(f'withdrawal --hex --append {self.file}'.split()))
+
+    def test_an_empty_file_takes_either(self):
+        for form in ('', '--hex'):
+            open(self.file, 'wb').close()
+            self.made(f'withdrawal {form} --append {self.file}')
+            self.assertEqual(contents(self.file), self.made(f'withdrawal {form}'))
 
     def on_a_terminal(self, *words):
         ours, theirs = pty.openpty()
@@ -406,6 +471,144 @@ class Writing(Tool):
         self.assertEqual((status, written.strip()), (0, self.made('withdrawal').hex().encode()))
         status, written, _ = self.on_a_terminal('withdrawal', '--terminal')
         self.assertEqual((status, written[:3]), (0, b'SOB'))
+
+
+def small_files():
+    resource.setrlimit(resource.RLIMIT_FSIZE, (200, 200))
+
+
+class Streams(Tool):
+    """Standard streams that are closed, full or endless: one line on standard error and status 2."""
+    SAMPLE = os.path.join(ROOT, 'samples', 'worked-run.records')
+    WRITING = (['sample'], ['sample', '--hex'], ['withdrawal', '--out', '-'], ['explain', SAMPLE], ['explain', '--brief', SAMPLE],
+               ['explain', '--strict', '--record', '00'], ['explain', '--answer', '17', '0', '0'], ['--help'], ['explain', '--help'])
+
+    def ended(self, words, text, unbuffered='', **streams):
+        """Python's own buffers are there, or not: an empty setting is none."""
+        settings = {'stdout': subprocess.PIPE, 'stderr': subprocess.PIPE, 'timeout': 60, 'check': False, **streams}
+        done = subprocess.run([sys.executable, TOOL, *words], env={**os.environ, 'PYTHONUNBUFFERED': unbuffered}, **settings)
+        self.assertEqual((done.returncode, done.stderr), (2, f'records.py: {text}\n'.encode()), words)
+        self.assertIn(done.stdout, (b'', None))
+
+    def test_closed_output(self):
+        for words in self.WRITING:
+            self.ended(words, 'standard output is closed', stdout=None, preexec_fn=lambda: os.close(1))
+
+    @unittest.skipUnless(os.path.exists('/dev/full'), 'no /dev/full here')
+    def test_full_output(self):
+        for words in self.WRITING:
+            with open('/dev/full', 'wb') as full:
+                self.ended(words, 'standard output: No space left on device', stdout=full)
+            with open('/dev/full', 'wb') as full:
+                self.ended(words, 'standard output: No space left on device', unbuffered='1', stdout=full)
+        for option in ('--out', '--append'):
+            self.ended(['sample', option, '/dev/full'], '/dev/full: No space left on device')
+
+    def test_output_that_is_taken_in_part(self):
+        for unbuffered in ('', '1'):
+            with tempfile.TemporaryFile() as file:
+                self.ended(['sample'], 'standard output: File too large', unbuffered, stdout=file, preexec_fn=small_files)
+
+    def test_a_reader_that_has_gone(self):
+        for words in self.WRITING:
+            ours, theirs = os.pipe()
+            os.close(ours)
+            try:
+                self.ended(words, 'standard output: Broken pipe', stdout=theirs)
+            finally:
+                os.close(theirs)
+
+    def test_a_reader_that_goes_after_a_line(self):
+        with tempfile.NamedTemporaryFile() as file:
+            file.write(self.made('sample') * 100)
+            file.flush()
+            with subprocess.Popen([sys.executable, TOOL, 'explain', file.name], stdout=subprocess.PIPE, stderr=subprocess.PIPE) as tool:
+                self.assertEqual(tool.stdout.readline(), b'record 1: capability (call 2)\n')
+                tool.stdout.close()
+                self.assertEqual((tool.stderr.read(), tool.wait(60)), (b'records.py: standard output: Broken pipe\n', 2))
+
+    def test_output_that_cannot_be_written(self):
+        with open(os.devnull, 'rb') as nothing:
+            self.ended(['sample'], 'standard output: Bad file descriptor', stdout=nothing)
+
+    def test_closed_output_that_is_not_used(self):
+        with tempfile.NamedTemporaryFile() as file:
+            done = subprocess.run([sys.executable, TOOL, 'sample', '--out', file.name], stderr=subprocess.PIPE, preexec_fn=lambda: os.close(1), check=False)
+            self.assertEqual((done.returncode, done.stderr, contents(file.name)), (0, b'', self.made('sample')))
+
+    def test_closed_input(self):
+        for words in (['explain'], ['explain', '-'], ['explain', '--brief', '--whole'], ['explain', self.SAMPLE, '--answers', '-']):
+            self.ended(words, 'standard input is closed', stdin=None, preexec_fn=lambda: os.close(0))
+
+    def test_input_that_cannot_be_read(self):
+        with open(os.devnull, 'wb') as nothing:
+            self.ended(['explain'], 'standard input: Bad file descriptor', stdin=nothing)
+        self.ended(['explain', HERE], f'{HERE}: Is a directory')
+
+    def test_streams_that_do_not_wait(self):
+        """A part of the input is not taken for the whole, nor a part of the output given for it."""
+        for held in (b'', self.made('sample')[:336]):
+            ours, theirs = os.pipe()
+            os.set_blocking(ours, False)
+            os.write(theirs, held)
+            self.ended(['explain'], 'standard input: Resource temporarily unavailable', stdin=ours)
+            os.close(theirs)
+            os.close(ours)
+        for unbuffered in ('', '1'):
+            ours, theirs = os.pipe()
+            os.set_blocking(theirs, False)
+            with contextlib.suppress(BlockingIOError):
+                while True:
+                    os.write(theirs, bytes(512))
+            done = subprocess.run([sys.executable, TOOL, 'sample'], stdout=theirs, stderr=subprocess.PIPE,
+                                  env={**os.environ, 'PYTHONUNBUFFERED': unbuffered}, check=False)
+            self.assertEqual((done.returncode, done.stderr.count(b'\n'), done.stderr[:28]), (2, 1, b'records.py: standard output:'))
+            os.close(theirs)
+            os.close(ours)
+
+    @unittest.skipUnless(os.path.exists('/dev/zero'), 'no /dev/zero here')
+    def test_zeros_without_end(self):
+        text = 'has no end, or is no file of records: more than 56500000 bytes'
+        for words in (['explain', '/dev/zero'], ['explain', '--brief', '/dev/zero'], ['explain', '--whole', '/dev/zero']):
+            self.ended(words, f'/dev/zero {text}')
+        with open('/dev/zero', 'rb') as zeros:
+            self.ended(['explain'], f'standard input {text}', stdin=zeros)
+        self.ended(['explain', self.SAMPLE, '--answers', '/dev/zero'], '/dev/zero has no end, or is no file of answers: more than 80000000 bytes')
+
+    @unittest.skipUnless(shutil.which('yes'), 'no yes here')
+    def test_lines_without_end(self):
+        for said in ([], ['534f42']):
+            with subprocess.Popen(['yes', *said], stdout=subprocess.PIPE) as yes:
+                self.ended(['explain'], 'standard input has no end, or is no file of records: more than 56500000 bytes', stdin=yes.stdout)
+                yes.stdout.close()
+
+    def test_more_records_than_any_book_holds(self):
+        with tempfile.NamedTemporaryFile() as file:
+            file.truncate(112 * 250_001)
+            self.ended(['explain', file.name], f'{file.name} has no end, or is no file of records: more than 250000 records')
+
+    def test_closed_or_full_errors(self):
+        """Nowhere to complain to: the status says it, and no complaint is among the records."""
+        with open(os.devnull, 'rb') as nothing:
+            for words in (['clock', '--minute', 'x'], ['explain', '/no/such/file'], ['offer']):
+                for streams in ({'preexec_fn': lambda: os.close(2)}, {'stderr': nothing}):
+                    done = subprocess.run([sys.executable, TOOL, *words], stdout=subprocess.PIPE, check=False, env={**os.environ, 'PYTHONUNBUFFERED': ''}, **streams)
+                    self.assertEqual((done.returncode, done.stdout), (2, b''), words)
+
+    def test_a_disk_that_fills_up_leaves_no_torn_record(self):
+        with tempfile.TemporaryDirectory() as folder:
+            name = os.path.join(folder, 'day.records')
+            self.made(f'withdrawal --out {name}')
+            self.ended(['withdrawal', '--append', name], f'{name}: File too large', preexec_fn=small_files)
+            self.assertEqual(contents(name), self.made('withdrawal'))
+            self.ended(['sample', '--out', name], f'{name}: File too large', preexec_fn=small_files)
+            self.assertEqual(contents(name), b'')
+
+    def test_one_line_whatever_the_words(self):
+        for word in ('a\nb', '\x1b[31m', '\udc80', 'x' * 5000, '\r\n\r\n'):
+            self.assertLess(len(self.refused(['explain', word])), 1100)
+            self.refused(['clock', '--minute', word])
+            self.refused([word])
 
 
 def rows_of(text):
@@ -448,6 +651,47 @@ class Shown(Tool):
         self.assertEqual((done.returncode, done.stdout.count(b'passes'), done.stderr), (0, 9, b''))
         nothing = subprocess.run([sys.executable, TOOL, 'explain'], input=b'', capture_output=True, check=False)
         self.assertEqual((nothing.returncode, nothing.stdout), (0, b'no records\n'))
+
+
+    def test_from_hex_lines(self):
+        """What --hex writes, on standard input or from a file, alone or with its answers."""
+        for lines in (self.made('sample --hex'), self.made('sample --hex').upper().replace(b'\n', b'\r\n'), b'\n' + self.made('sample --hex') + b'\n \n'):
+            done = subprocess.run([sys.executable, TOOL, 'explain'], input=lines, capture_output=True, check=False)
+            self.assertEqual((done.returncode, done.stdout, done.stderr), (0, self.made(f'explain {Streams.SAMPLE}'), b''))
+        with tempfile.NamedTemporaryFile() as file:
+            file.write(self.made('sample --hex'))
+            file.flush()
+            answers = os.path.join(ROOT, 'samples', 'worked-run.txt')
+            self.assertEqual(self.explained(f'{file.name} --answers {answers}'), self.explained(f'{Streams.SAMPLE} --answers {answers}'))
+            self.assertEqual(self.explained(f'{file.name} --whole'), self.explained(f'{Streams.SAMPLE} --whole'))
+
+    def test_damaged_hex_lines(self):
+        lines = self.made('sample --hex').decode().splitlines()
+        with tempfile.TemporaryDirectory() as folder:
+            name = os.path.join(folder, 'day.hex')
+
+            def explained(damaged):
+                with open(name, 'w', encoding='ascii') as file:
+                    file.write('\n'.join(lines[:2] + [damaged] + lines[3:]))
+                return name
+            text = self.explained(explained(lines[2][:-2]))
+            self.assertEqual((text.count('passes'), text.count('F 64, S 5: 2: 111 bytes, 1 too few')), (8, 1))
+            for damaged in (lines[2][:-1], lines[2] + 'x', 'x' + lines[2][1:]):
+                self.assertIn(f'{name}, line 3: not pairs of hex digits', self.refused(['explain', explained(damaged)]))
+
+    def test_answers_on_standard_input(self):
+        done = subprocess.run([sys.executable, TOOL, 'explain', Streams.SAMPLE, '--answers', '-'], input='\n'.join(PRINTED).encode(),
+                              capture_output=True, check=False)
+        self.assertEqual((done.returncode, done.stdout.count(b'  answer '), done.stderr), (0, 9, b''))
+
+    def test_answers_that_do_not_fit(self):
+        with tempfile.NamedTemporaryFile() as file:
+            for text, message in (('0 0 0\n' * 8, 'has 8 answers, and there are 9 records'), ('0 0 0\n' * 10, 'has 10 answers'),
+                                  ('0 0 0\n' * 8 + '0 0\n', 'line 9: an answer is 3 numbers'), ('0 0 0\n\n' + '0 0 0\n' * 7, 'line 2: an answer is 3 numbers'),
+                                  ('0 0 0\n' * 4 + '0 x 0\n' + '0 0 0\n' * 4, "line 5: 'x' is not a whole number"), ('\u00e9\n' * 9, 'line 1: ')):
+                with open(file.name, 'w', encoding='utf-8') as answers:
+                    answers.write(text)
+                self.assertIn(message, self.refused(['explain', Streams.SAMPLE, '--answers', file.name]))
 
 
 class DamagedRecords(Tool):
@@ -659,9 +903,9 @@ class Answers(Tool):
 
     def test_every_refusal(self):
         for number in range(1, 21):
-            who, means, correct = REFUSALS[number]
+            name, _, who, means, correct = REFUSALS[number]
             text = self.explained(f'--answer {number} 0 0')
-            self.assertEqual(text, f'refused with {number}, drawn by {who}: {means}\nto correct: {correct}\nthe book is unchanged\n')
+            self.assertEqual(text, f'refused with {number}, {name}; drawn by {who}\n  means       {means}\n  to correct  {correct}\n  the book    unchanged\n')
             self.assertEqual(self.explained(f'--answer {number}' + ' 0' * 25), text)
         self.assertEqual(sorted(REFUSALS), list(range(1, 21)))
 
@@ -669,7 +913,7 @@ class Answers(Tool):
         want = {'the host program': {1, 2, 20}, 'any sender': {3, 4, 5}, 'the clock': {6}, 'the system operator': {7, 8},
                 'the coordinator': set(range(9, 19)) - {10}, 'the coordinator or reader': {10}, 'the reader': {19}}
         for who, numbers in want.items():
-            self.assertEqual({number for number, (drawn_by, _, _) in REFUSALS.items() if drawn_by == who}, numbers)
+            self.assertEqual({number for number, refusal in REFUSALS.items() if refusal.drawn_by == who}, numbers)
 
     def test_three_numbers(self):
         for line, text in (
@@ -689,7 +933,7 @@ class Answers(Tool):
             'the variation is in force, 70.0 MW in all', '  ramp up        1.5 MW/min', '  ramp down      2.0 MW/min',
             '  pair 1         50.0 MW at $40.00/MWh', '  pair 2         20.0 MW at -$50.00/MWh', '  pairs 3 to 10  blank'])
         reserve = '0 1 625 0 0 100 50' + ' 0' * 18 + ' 50'
-        self.assertEqual(explain_answer(reserve, 8, 2), ['the standing offer is in force, 5.0 MW in all', '  proportion    0.625',
+        self.assertEqual(explain_answer(read_answer(reserve), 8, 2), ['the standing offer is in force, 5.0 MW in all', '  proportion    0.625',
                                                          '  pair 1        5.0 MW at $1.00/MWh', '  pairs 2 to 5  blank'])
 
     def test_damaged(self):
@@ -698,10 +942,187 @@ class Answers(Tool):
             self.assertIn('damaged answer', self.explained(f'--answer {line}'), line)
 
 
+    def test_a_call_that_is_none_of_the_nine(self):
+        for number in (0, 10, 77, 255):
+            self.assertIn(f'there is no call {number}: calls are 1 to 9 (--damaged', self.refused(f'explain --answer 0 0 0 --call {number}'.split()))
+            self.assertEqual(self.explained(f'--answer 0 0 0 --call {number} --damaged'), f'damaged answer: call {number}, none of the nine, draws 2\n')
+            self.assertIn(f'call {number}, none of the nine, never draws 17', self.explained(f'--answer 17 0 0 --call {number} --damaged'))
+            self.assertNotIn('damaged', self.explained(f'--answer 2 0 0 --call {number} --damaged'))
+        self.assertEqual(self.explained('--answer 0 0 0 --call 1 --damaged'), 'accepted\n')
+
+    def test_which_call_draws_which(self):
+        """Document 01: 5 'calls 3, 4, 5, 8'; 10 'also calls 8 and 9'; 18 'standing offer'; 19 'call 8'."""
+        offer = {9, 10, 11, 12, 13, 14, 15, 16, 17}
+        for call, numbers in {1: {6}, 2: {3, 8}, 3: {3, 5, 18} | offer, 4: {3, 5} | offer, 5: {3, 5, 7}, 6: {7}, 7: {7},
+                              8: {3, 5, 10, 19}, 9: {3, 10}}.items():
+            self.assertEqual({number for number in range(1, 21) if draws(call, number)}, {1, 2, 4} | numbers, call)
+
+    def test_more_facilities_than_the_book_has(self):
+        self.assertEqual(self.explained('--answer 0 3 30 --call total --facilities 3'), '3 facilities have an offer in force, 3.0 MW in all\n')
+        self.assertIn('damaged answer: a total counts 0 to 3 facilities', self.explained('--answer 0 4 30 --call total --facilities 3'))
+        self.assertIn('damaged answer: a total counts 0 to 64 facilities', self.explained('--answer 0 65 30 --call total --facilities 65'))
+
+
+class Strict(Tool):
+    """--strict: status 1 and one line where a record or an answer is no such thing; what is printed stays the same."""
+    LOOK_UP = 'look-up --facility 3 --service primary --period 4'
+
+    def statuses(self, line, text=''):
+        loose, strict = run(['explain', *line.split()]), run(['explain', '--strict', *line.split()])
+        self.assertEqual((loose[0], loose[2]), (0, ''), line)
+        self.assertEqual(strict, (1 if text else 0, loose[1], f'records.py: --strict: not right: {text}\n' if text else ''), line)
+        brief = run(['explain', '--strict', '--brief', *line.split()]) if '--answer ' not in line else strict
+        self.assertEqual((brief[0], brief[2]), (strict[0], strict[2]), line)
+
+    def test_records(self):
+        data = self.made(self.LOOK_UP)
+        self.statuses(f'--record {data.hex()}')
+        self.statuses(f'--record {data[:-1].hex()}', 'record 1')
+        self.statuses(f'--record {data.hex()}00', 'record 1')
+        self.statuses(f'--record 54{data.hex()[2:]}', 'record 1')
+        self.statuses(f'--record {data.hex()[:-1]}1', 'record 1')
+        self.statuses(f'--record {data.hex()} --facilities 4 --services 5')
+        self.statuses(f'--record {data.hex()} --facilities 3', 'record 1')
+        self.statuses(f'--record {data.hex()} --services 1', 'record 1')
+        self.statuses(f'--record {data.hex()} --services 2', 'record 1')
+
+    def test_answers(self):
+        for line in ('0 0 0', '0 1 700', '17 0 0', '19 0 0 --call look-up', '0 0 0 --call clock'):
+            self.statuses(f'--answer {line}')
+        for line in ('17 1 0', '0 0 7', '0 0 0 --call look-up', '17 0 0 --call look-up', '0 1 0 --call clock', '0 0 0 --call 77 --damaged',
+                     '0 4 30 --call total --facilities 3'):
+            self.statuses(f'--answer {line}', 'the answer')
+
+    def test_answers_of_records(self):
+        right, stray = self.made(self.LOOK_UP), bytearray(self.made(self.LOOK_UP))
+        stray[13] = 1
+        for data, answer, sizes, wrong in (
+                (right, '0 1 5', '', []), (right, '3 0 0', '', []), (right, '2 0 0', '', ['answer']), (right, '4 0 0', '', ['answer']),
+                (right, '1 0 0', '', []), (right, '20 0 0', '', ['answer']), (right, '3 0 0', '--facilities 4 --services 5', ['answer']),
+                (right, '0 1 5', '--facilities 3 --services 5', ['record', 'answer']), (right, '3 0 0', '--facilities 3 --services 5', ['record']),
+                (right[:-1], '2 0 0', '', ['record']), (right[:-1], '0 1 5', '', ['record', 'answer']), (right[:-1], '1 0 0', '', ['record']),
+                (stray, '4 0 0', '', ['record']), (stray, '3 0 0', '', ['record']), (stray, '0 1 5', '', ['record', 'answer']),
+                (stray, '3 0 0', '--facilities 64 --services 5', ['record', 'answer']),
+                (right, '0 1 5', '--services 2', ['record']), (right[:-1], '0 0 0', '--services 2', ['record', 'answer'])):
+            with tempfile.NamedTemporaryFile('w') as file:
+                file.write(answer)
+                file.flush()
+                self.statuses(f'--record {bytes(data).hex()} --answers {file.name} {sizes}', ', '.join(f'{what} 1' for what in wrong))
+
+    def test_what_no_record_can_be_answered(self):
+        with tempfile.NamedTemporaryFile('w') as file:
+            file.write('0 0 0')
+            file.flush()
+            self.assertTrue(self.explained(f'--record 00 --answers {file.name}').endswith(
+                '\n  answer 0 0 0\n    damaged answer: the record test of this record gives 2\n'))
+
+    def test_several(self):
+        with tempfile.NamedTemporaryFile() as file:
+            file.write(bytes(112 * 7) + self.made('sample'))
+            file.flush()
+            self.statuses(file.name, 'record 1, record 2, record 3, record 4, record 5 and 2 more')
+
+
+class Brief(Tool):
+    """explain --brief: a line a record."""
+
+    def table(self, line, answers):
+        status, data, errors = run(line.split())
+        self.assertEqual((status, errors), (0, ''))
+        with tempfile.NamedTemporaryFile() as file, tempfile.NamedTemporaryFile('w') as lines:
+            file.write(data)
+            file.flush()
+            if answers is None:
+                return self.explained(f'--brief {file.name}').splitlines()
+            lines.write('\n'.join(answers))
+            lines.flush()
+            return self.explained(f'--brief {file.name} --answers {lines.name}').splitlines()
+
+    def test_a_day_of_look_ups(self):
+        """Facility and service stand once; pairs are aligned; a refusal's words stand in the pairs' place."""
+        look_up = 'look-up --facility 2 --service energy --period '
+        zeros = ' 0' * 16
+        self.assertEqual(self.table(' then '.join(look_up + period for period in ('96', '97', '98', '99', '1000')), [
+            '0 1 0 15 15 4000 500 5000 200' + zeros + ' 700', '0 2 0 15 15 -450000 99 4000 1200' + zeros + ' 1299',
+            '0 2' + ' 0' * 24, '19' + ' 0' * 25, '10' + ' 0' * 25]), [
+                'look-up, facility 2, energy',
+                'no.  period     day  time   in force       MW  pairs, MW @ $/MWh',
+                '  1      96   2 Wed  00:00  standing     70.0  50.0 @    40.00   20.0 @ 50.00',
+                '  2      97   2 Wed  00:30  variation   129.9   9.9 @ -4500.00  120.0 @ 40.00',
+                '  3      98   2 Wed  01:00  variation     0.0',
+                '  4      99   2 Wed  01:30  refused 19         nothing in force',
+                '  5    1000  20 Sun  20:00  refused 10         period refused: begun or past the horizon'])
+
+    def test_the_worked_run(self):
+        """An answer of three numbers has no pairs: they are those of the filing before it."""
+        self.assertEqual(self.table('sample', PRINTED), [
+            'no.  call            facility  service  period    day  time   answer        MW  pairs, MW @ $/MWh',
+            '  1  capability             0                                 accepted          generation, 130.0 MW, combined 80.0 MW, registered for energy',
+            '  2  standing offer         0  energy   slot 4    Mon  02:00  accepted    70.0  50.0 @ 40.00  20.0 @ 50.00',
+            '  3  look-up                0  energy        4  0 Mon  02:00  standing    70.0  50.0 @ 40.00  20.0 @ 50.00',
+            '  4  variation              0  energy        4  0 Mon  02:00  accepted    30.0  30.0 @ 40.00',
+            '  5  look-up                0  energy        4  0 Mon  02:00  variation   30.0  30.0 @ 40.00',
+            '  6  total                     energy        4  0 Mon  02:00  1 facility  30.0',
+            '  7  look-up                0  energy      340  7 Mon  02:00  refused 10        period refused: begun or past the horizon',
+            '  8  clock                                      1 Tue  00:00  accepted',
+            '  9  look-up                0  energy      340  7 Mon  02:00  standing    70.0  50.0 @ 40.00  20.0 @ 50.00'])
+
+    def test_calls_without_an_offer(self):
+        line = ('outage --facility 1 --minute 100 --periods 3 then notice --kind shortfall --first 4 --last 9 then withdrawal'
+                ' then total --service regulation --period 5')
+        self.assertEqual(self.table(line, ['0 0 0', '7 0 0', '0 0 0', '0 2 30']), [
+            'no.  call        facility  service     period    day  time   answer         MW',
+            '  1  outage             1                      0 Mon  01:40  accepted           periods 4 to 6',
+            '  2  notice                                                  refused 7          notice refused: notice out of range',
+            '  3  withdrawal                                              accepted           system status notice',
+            '  4  total                 regulation       5  0 Mon  02:30  2 facilities  3.0'])
+
+    def test_without_answers(self):
+        self.assertEqual(self.table('variation --facility 0 --service primary --period 5 --proportion 5 --mw 1@2,0@0,3@4', None), [
+            'variation, facility 0, primary reserve', 'no.  period    day  time    MW  pairs, MW @ $/MWh', '  1       5  0 Mon  02:30  4.0  1.0 @ 2.00  3.0 @ 4.00'])
+        self.assertEqual(self.explained('--brief --record 534f').splitlines(), [
+            'no.  call       record test', '  1  no record  refused 2    not a record: 2 bytes, 110 too few; mark 534f, not 534f42 (SOB); version missing, not 0001;'
+            ' call missing, not 1 to 9'])
+        self.assertEqual(self.table('sample', None)[2], '  2  standing offer         0  energy   slot 4    Mon  02:00  70.0  50.0 @ 40.00  20.0 @ 50.00')
+
+    def test_damage(self):
+        self.assertEqual(self.table('withdrawal then withdrawal', ['0 1 0', '17 0 0'])[-2:], [
+            '  1  damaged  answer 0 1 0: beside this call all words and the sum are zero', '  2  damaged  answer 17 0 0: a withdrawal never draws 17'])
+        self.assertEqual(self.table('look-up --facility 0 --service 0 --period -1 --anyway', ['10 0 0'])[-1:], [
+            '  1      -1  refused 10  period refused: begun or past the horizon'])
+
+    def test_a_filing_elsewhere(self):
+        """A look-up whose sum is not the filing's answers from another one: no pairs are shown."""
+        line = 'standing --facility 0 --service 0 --slot 4 --pairs 5@1 then look-up --facility 0 --service 0 --period 4'
+        self.assertTrue(self.table(line, ['0 0 0', '0 1 5'])[-1].endswith('0.5  0.5 @ 0.01'))
+        self.assertTrue(self.table(line, ['0 0 0', '0 1 6'])[-1].endswith('standing  0.6'))
+        self.assertTrue(self.table(line, ['17 0 0', '0 1 5'])[-1].endswith('standing    0.5'))
+        self.assertTrue(self.table(line, ['0 0 0', '0 2 5'])[-1].endswith('variation  0.5'))
+        self.assertTrue(self.table(line.replace(' then ', ' then withdrawal then '), ['0 0 0', '0 9 9', '0 1 5'])[-1].endswith('standing  0.5'))
+
+    def test_one_line_each_whatever_the_bytes(self):
+        chance = random.Random(7)
+        sample = self.made('sample')
+        for _ in range(300):
+            data = bytearray(sample)
+            for _ in range(chance.randint(0, 40)):
+                data[chance.randrange(len(data))] = chance.choice((0, 1, 2, 9, 255, chance.randint(0, 255)))
+            pieces = [bytes(data[n:n + 112]) for n in range(0, len(data) - chance.randint(0, 112), 112)]
+            answers = [read_answer(f"{chance.randint(0, 20)} {chance.choice((0, 0, 1, 2, 3))} {chance.choice((0, 0, 700))}") for _ in pieces]
+            for given in (answers, [None] * len(pieces)):
+                lines = brief_lines(brief_rows(pieces, given, Book()), given is answers)
+                self.assertIn(len(lines) - len(pieces), (1, 2))
+                self.assertTrue(all(line == line.rstrip() and line.isprintable() for line in lines))
+
+
 class Vectors(Tool):
     """tests/vectors: NAME.in holds lists (F, S, six limits, count; then each record with its length before it), NAME.out an answer a line."""
 
     def lists(self, name):
+        return (item[1:] for item in self.numbered(name))
+
+    def numbered(self, name):
+        """The list's number; record, F, S, answer."""
         data, answers = contents(HERE, 'vectors', name + '.in'), iter(contents(HERE, 'vectors', name + '.out').decode().splitlines())
         place = 0
 
@@ -709,12 +1130,14 @@ class Vectors(Tool):
             nonlocal place
             place += 4
             return int.from_bytes(data[place - 4:place], 'big', signed=True)
+        number = 0
         while place < len(data):
             facilities, services, *_, count = [word() for _ in range(9)]
+            number += 1
             for _ in range(count):
                 length = word()
                 place += length
-                yield data[place - length:place], facilities, services, next(answers)
+                yield number, data[place - length:place], facilities, services, next(answers)
         self.assertIsNone(next(answers, None))
 
     def program(self, name):
@@ -734,8 +1157,10 @@ class Vectors(Tool):
             surely, _ = any_book_refuses(data)
             self.assertTrue(surely == 0 or 0 < number <= surely, (data.hex(), answer, surely))
             self.assertIn(f'F {facilities}, S {services}: {tested}', '\n'.join(explain_record(data, facilities, services)))
-            lines = explain_answer(answer, *records.call_and_service(data))
-            self.assertNotIn('damaged', ' '.join(lines), (data.hex(), answer))
+            given = read_answer(answer)
+            for book in (Book(), Book(facilities, services)):
+                lines = explain_answer(given, *records.call_and_service(data), book.most, book.wrong(data, given))
+                self.assertNotIn('damaged', ' '.join(lines), (data.hex(), answer))
             words = command_for(data)
             if words and place % 5 == 0:
                 self.assertEqual(b''.join(records.make(options) for options in records.parse_run(words)), data)
@@ -750,9 +1175,108 @@ class Vectors(Tool):
     def test_one_service(self):
         self.assertLessEqual({0, 2, 3, 4, 17}, self.check(self.lists('one_service')))
 
+    def test_pairs_of_short_answers(self):
+        """Told the first word and the sum alone, the pairs of the filings are those of the whole answer."""
+        for name, least in (('one_service', 100), ('five_services', 100)):
+            seen = 0
+            for _, items in itertools.groupby(self.numbered(name), lambda item: item[0]):
+                pieces, answers = zip(*((item[1], read_answer(item[4])) for item in items))
+                short = [answer._replace(words=answer.words[:1]) for answer in answers]
+                for whole, part in zip(brief_rows(pieces, answers, Book()), brief_rows(pieces, short, Book())):
+                    self.assertEqual([pair for pair in whole.pairs if pair[1]], [pair for pair in part.pairs if pair[1]])
+                    self.assertEqual(whole[:-2], part[:-2])
+                    seen += whole.call == 'look-up' and bool(part.pairs)
+            self.assertGreater(seen, least)
+
     def test_program(self):
         self.check(self.program('program_31'))
         self.check(self.program('program_34'))
+
+
+class Header(unittest.TestCase):
+    """include/bilzhaan.h: the tool's places, numbers and words are those of its enums."""
+
+    def setUp(self):
+        self.text = contents(ROOT, 'include', 'bilzhaan.h').decode()
+        self.numbers = {name: int(value) for name, value in re.findall(r'\bBILZHAAN_(\w+) = (\d+)', self.text)}
+
+    def these(self, *names):
+        return [self.numbers[name] for name in names]
+
+    def after(self, first, count):
+        """The names of one enum from `first` on, in order."""
+        names = list(self.numbers)
+        return names[names.index(first):][:count]
+
+    def test_sizes_and_bounds(self):
+        energy, primary = records_layout.offer_fields(0)[1], records_layout.offer_fields(1)[1]
+        self.assertEqual(self.these('RECORD_BYTES', 'FACILITIES_MOST', 'SERVICES_ALL', 'PAIRS_ENERGY', 'PAIRS_OTHER', 'CLOCK_LAST',
+                                    'NOTICE_PERIOD_LAST', 'LIMIT_LARGEST'),
+                         [records_layout.LENGTH, records_layout.MOST_FACILITIES, records_layout.MOST_SERVICES, energy, primary, records_layout.LAST_CLOCK,
+                          records_layout.LAST_NOTICE_PERIOD, records_layout.LARGEST_LIMIT])
+        self.assertEqual([record_test(build(1), 1, services)[0] for services in self.these('SERVICES_ONE', 'SERVICES_ALL')], [0, 0])
+        self.assertEqual(records_amounts.period('0/00:30') * self.numbers['PERIOD_MINUTES'], records_amounts.minute('0/00:30'))
+        self.assertIn(f"slot {1000 % self.numbers['WEEK_SLOTS']})", records_amounts.show_period(1000))
+        rows = '\n'.join(explain_record(build(4, period=100), 64, 5))
+        self.assertIn(f"up to minute {100 * self.numbers['PERIOD_MINUTES'] - self.numbers['GATE_MINUTES']} ", rows)
+
+    def test_places(self):
+        """Each field, made alone, changes bytes from its place on and none before."""
+        plain = build(0)
+        for name, width, fields in (
+                ('CALL', 1, {'call': 255}), ('FACILITY', 1, {'facility': 255}), ('SERVICE', 1, {'service': 255}), ('PERIOD', 4, {'period': -1}),
+                ('REASON', 1, {'reason': 255}), ('PROPORTION', 2, {'proportion': 65535}), ('RAMP_UP', 4, {'ramp_up': -1}), ('RAMP_DOWN', 4, {'ramp_down': -1}),
+                ('A', 4, {'a': -1}), ('B', 4, {'b': -1}), ('W0', 80, {'words': [-1] * 20})):
+            data = build(**{'call': 0, **fields})
+            start = self.numbers[f'AT_{name}']
+            self.assertEqual([place for place in range(112) if data[place] != plain[place]], list(range(start, start + width)), name)
+        self.assertEqual(plain[self.numbers['AT_MARK']:][:3], b'SOB')
+        self.assertEqual(plain[self.numbers['AT_VERSION']:][:2], b'\0\1')
+
+    def test_calls(self):
+        names = [name for name in self.numbers if name.startswith('CALL_')]
+        self.assertEqual({self.numbers[name]: name[5:].lower().replace('_', '-') for name in names}, records_layout.CALLS)
+
+    def test_services_kinds_reasons_and_notices(self):
+        services = self.after('ENERGY', 5)
+        self.assertEqual(self.these(*services), [0, 1, 2, 3, 4])
+        self.assertEqual([name.lower().replace('_', ' ') for name in services], list(records_layout.SERVICE_TEXTS))
+        self.assertEqual(records_layout.KINDS, {self.numbers[name]: name.lower() for name in ('GENERATION', 'LOAD')})
+        reasons = self.after('REASON_NONE', 7)
+        self.assertEqual(self.these(*reasons), list(range(7)))
+        for name, word in zip(reasons, records_layout.REASONS):
+            self.assertTrue(name[7:].lower().replace('_', '-').endswith(word), (name, word))
+        notices = [name for name in self.numbers if name.startswith('NOTICE_') and name not in ('NOTICE_PERIOD_LAST', 'NOTICE_REFUSED')]
+        self.assertEqual(sorted(self.these(*notices)), sorted(records_layout.NOTICES))
+        for name in notices:
+            self.assertTrue(name.lower().endswith(records_layout.NOTICES[self.numbers[name]]), name)
+
+    def test_words_of_a_capability(self):
+        """Each option fills the word that the header names."""
+        words = [option.replace('-', '_').upper() for option, _, _ in CAPABILITY]
+        first = {'MAX_PRIMARY': 'MAX_RESERVE', 'MAX_PRIMARY_PROPORTION': 'MAX_PROPORTION'}
+        for place, name in enumerate(words, 1):
+            if not name.startswith(('MAX_SECONDARY', 'MAX_CONTINGENCY')):
+                self.assertEqual(self.numbers[f'W_{first.get(name, name)}'], place, name)
+        self.assertEqual(self.numbers['W_REGISTERED'], len(words) + 1)
+        self.assertEqual(self.numbers['CAPABILITY_WORDS'], len(words) + 6)
+        for line, place in (('--kind 1', 'KIND'), ('--kind 1 --max-regulation 5', 'MAX_REGULATION'), ('--kind 1 --registered energy', 'REGISTERED')):
+            status, data, _ = run(f'capability --facility 0 {line}'.split())
+            self.assertEqual((status, read(data).words[self.numbers[f'W_{place}']] > 0), (0, True))
+
+    def test_numbers_names_and_notes(self):
+        """The enum of numbers, line by line: number, name, and what its comment says."""
+        numbers = self.text[self.text.index('BILZHAAN_ACCEPTED = 0'):]
+        lines = re.findall(r'BILZHAAN_(\w+) = (\d+),? *(?:/\* (.*?) \*/)?\n', numbers[:numbers.index('};')])
+        self.assertEqual(len(lines), 21)
+        for name, number, note in lines[1:]:
+            refusal = REFUSALS[int(number)]
+            self.assertEqual((refusal.name.replace("'", '').replace(' ', '_').upper(), refusal.note), (name, note))
+
+    def test_in_force(self):
+        for name, text in (('STANDING_IN_FORCE', 'standing offer'), ('VARIATION_IN_FORCE', 'variation')):
+            answer = read_answer(f'0 {self.numbers[name]} 0')
+            self.assertEqual(explain_answer(answer, 8), [f'the {text} is in force, 0.0 MW in all'])
 
 
 class RefusalsPage(unittest.TestCase):
@@ -771,7 +1295,25 @@ class RefusalsPage(unittest.TestCase):
     def test_who_draws_which(self):
         for row in self.rows:
             if len(row) == 5 and row[0].isdigit():
-                self.assertEqual('the ' + row[1].replace(', ', ' or ') if row[1] != 'any sender' else row[1], REFUSALS[int(row[0])][0])
+                self.assertEqual('the ' + row[1].replace(', ', ' or ') if row[1] != 'any sender' else row[1], REFUSALS[int(row[0])].drawn_by)
+
+    def test_its_words_are_the_tools(self):
+        """What a number means and what to correct; the page says more of 17 below its table."""
+        def ascii_of(text):
+            for sign, plain in (('\u2264', '<='), ('\u2265', '>='), ('\u00b7', ' '), ('\u00b1', '+-')):
+                text = text.replace(sign, plain)
+            return text
+        for row in self.rows:
+            if len(row) == 5 and row[0].isdigit():
+                refusal, means = REFUSALS[int(row[0])], ascii_of(row[2])
+                if row[0] == '17':
+                    self.assertEqual(means, 'Gate closure: see below.')
+                    means = refusal.means if refusal.means.startswith('Gate closure: ') else means
+                self.assertEqual((refusal.means, refusal.correct), (means, ascii_of(row[3])))
+
+    def test_reasons(self):
+        texts = [row[0].split(maxsplit=1)[1] for row in self.rows if len(row) == 4 and row[0][0].isdigit()]
+        self.assertEqual([text.replace(' notice', '') for text in REASON_TEXTS[1:]], texts)
 
     def test_gate_closure(self):
         days = ('Mon', 'Tue', 'Wed', 'Thu', 'Fri', 'Sat', 'Sun')

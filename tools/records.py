@@ -1,15 +1,18 @@
 #!/usr/bin/env python3
 """Records for people: makes the 112-byte records of document 01's nine calls from words, and explains records and answers.
-It files nothing: give what it writes to the program or the gateway."""
-import os
+It files nothing: give what it writes to the program or the gateway. Python 3.8 or later, and its standard library alone."""
 import sys
 
 sys.dont_write_bytecode = True
 
 from records_amounts import BadArgument, within  # noqa: E402
-from records_arguments import parse_run  # noqa: E402
-from records_explain import CAPABILITY, explain_answer, explain_record  # noqa: E402
-from records_layout import CALLS, LENGTH, SERVICES, any_book_refuses, build, offer_fields, read  # noqa: E402
+from records_answers import Book, damage, explain_answer, read_answer  # noqa: E402
+from records_arguments import HelpAsked, parse_run  # noqa: E402
+from records_brief import brief_lines, brief_rows  # noqa: E402
+from records_explain import CAPABILITY, explain_record  # noqa: E402
+from records_files import append_records, hex_bytes, read_records, read_answers  # noqa: E402
+from records_layout import CALLS, LENGTH, SERVICES, any_book_refuses, build, form_faults, offer_fields, read, record_test  # noqa: E402
+from records_streams import BadStream, complain, is_terminal, write_file, write_lines, write_output  # noqa: E402
 
 # Document 01's worked run.
 SAMPLE = '''\
@@ -74,121 +77,124 @@ def sample():
 # ---- writing
 
 def write_records(records, run):
-    if sum(bool(o.out or o.append or o.terminal) for o in run) > 1:
+    chosen = [o for o in run if o.out is not None or o.append is not None or o.terminal]
+    if len(chosen) > 1:
         raise BadArgument('say once where the records go')
-    chosen = next((o for o in run if o.out or o.append or o.terminal), run[0])
+    where = (chosen or run)[0]
     as_hex = any(o.hex for o in run)
     data = ''.join(record.hex() + '\n' for record in records).encode() if as_hex else b''.join(records)
-    if chosen.out:
-        with open(chosen.out, 'wb') as file:
-            file.write(data)
-    elif chosen.append:
-        append(chosen.append, data, as_hex)
-    elif sys.stdout.isatty() and not as_hex and not chosen.terminal:
+    if where.out not in (None, '-'):
+        write_file(where.out, data, 'wb')
+    elif where.append not in (None, '-'):
+        append_records(where.append, data, as_hex)
+    elif is_terminal(sys.stdout) and not as_hex and not where.terminal:
         raise BadArgument('records are bytes and this is a terminal: give --hex, --out FILE, --append FILE or --terminal')
     else:
-        sys.stdout.buffer.write(data)
-        sys.stdout.buffer.flush()
-
-
-def append(name, data, as_hex):
-    """A record after a torn one would never be read as such."""
-    length = os.path.getsize(name) if os.path.exists(name) else 0
-    if not as_hex and length % LENGTH:
-        raise BadArgument(f'{name} has {length} bytes, not whole records of {LENGTH}: nothing is added')
-    with open(name, 'ab') as file:
-        file.write(data)
+        write_output([data])
 
 
 # ---- explaining
 
-def hex_bytes(text):
-    try:
-        return bytes.fromhex(text)
-    except ValueError:
-        raise BadArgument("--record: not pairs of hex digits") from None
-
-
-def records_to_explain(options):
-    if options.record is not None:
-        return [hex_bytes(options.record)]
-    if options.file in (None, '-'):
-        if sys.stdin.isatty():
-            raise BadArgument('explain: nothing to explain: give FILE, --record HEX or --answer N N N')
-        data = sys.stdin.buffer.read()
-    else:
-        with open(options.file, 'rb') as file:
-            data = file.read()
-    if options.whole:
-        return [data]
-    return [data[start:start + LENGTH] for start in range(0, len(data), LENGTH)]
-
-
-def answers_to_explain(options, count):
-    if options.answers is None:
-        return [None] * count
-    with open(options.answers, encoding='ascii', errors='replace') as file:
-        answers = file.read().splitlines()
-    if len(answers) != count:
-        raise BadArgument(f'{options.answers} has {len(answers)} answers, and there are {count} records')
-    return answers
+def check_sources(options):
+    """Each thing to be explained is given once, and from one place."""
+    if options.answer is not None:
+        if options.file is not None or options.record is not None or options.answers is not None or options.whole or options.brief:
+            raise BadArgument('explain: --answer stands alone, or with --call')
+        if options.call is not None and options.call not in CALLS and not options.damaged:
+            raise BadArgument(f'explain: there is no call {options.call}: calls are 1 to 9 (--damaged explains it all the same)')
+    elif options.call is not None or options.damaged:
+        raise BadArgument('explain: --call and --damaged go with --answer')
+    elif options.record is not None:
+        if options.file is not None or options.whole:
+            raise BadArgument('explain: --record stands without FILE and --whole')
+    elif options.answers == '-' and options.file in (None, '-'):
+        raise BadArgument('explain: standard input cannot hold the records and the answers')
+    elif options.file is None and is_terminal(sys.stdin):
+        raise BadArgument('explain: nothing to explain: give FILE, --record HEX or --answer N N N')
 
 
 def call_and_service(data):
-    if len(data) != LENGTH or data[5] not in CALLS:
+    if form_faults(data):
         return None, None
     r = read(data)
     return r.call, r.service if r.service < 5 else None
 
 
-def explain(options):
-    """All lines, made before any is printed."""
-    if options.answer is not None:
-        if options.file or options.record is not None or options.answers or options.whole:
-            raise BadArgument('explain: --answer stands alone, or with --call')
-        return explain_answer(' '.join(options.answer), options.call)
-    if options.call is not None:
-        raise BadArgument('explain: --call goes with --answer')
-    lines = []
-    records = records_to_explain(options)
-    for place, (data, answer) in enumerate(zip(records, answers_to_explain(options, len(records))), 1):
-        first, *rest = explain_record(data, options.facilities, options.services)
-        lines += [f'record {place}: {first}'] + rest
+def whole_lines(records, answers, book):
+    for place, (data, (line, answer)) in enumerate(zip(records, answers), 1):
+        first, *rest = explain_record(data, book.facilities, book.services)
+        yield f'record {place}: {first}'
+        yield from rest
         if answer is not None:
-            lines += [f'  answer {answer}'] + ['    ' + line for line in explain_answer(answer, *call_and_service(data))]
-    return lines or ['no records']
+            yield f'  answer {line}'
+            yield from ('    ' + text for text in explain_answer(answer, *call_and_service(data), book.most, book.wrong(data, answer)))
+
+
+def wrong_places(records, answers, book):
+    for place, (data, (_, answer)) in enumerate(zip(records, answers), 1):
+        if record_test(data, book.facilities, book.services)[0]:
+            yield f'record {place}'
+        if answer is not None and book.wrong(data, answer):
+            yield f'answer {place}'
+
+
+def strict_status(wrong):
+    """The status of --strict, and its line."""
+    if wrong:
+        more = f' and {len(wrong) - 5} more' if len(wrong) > 5 else ''
+        complain(f"records.py: --strict: not right: {', '.join(wrong[:5])}{more}")
+    return 1 if wrong else 0
+
+
+def explain(options):
+    """The exit status. Everything is read before anything is written."""
+    check_sources(options)
+    book = Book(options.facilities, options.services)
+    if options.answer is not None:
+        answer = read_answer(' '.join(options.answer))
+        write_lines(explain_answer(answer, options.call, None, book.most))
+        return strict_status(['the answer'] if options.strict and damage(answer, options.call, book.most) else [])
+    records = [hex_bytes(options.record, '--record')] if options.record is not None else read_records(options.file or '-', options.whole)
+    answers = read_answers(options.answers, len(records)) if options.answers is not None else [(None, None)] * len(records)
+    if options.brief:
+        write_lines(brief_lines(brief_rows(records, [answer for _, answer in answers], book), options.answers is not None))
+    else:
+        write_lines(whole_lines(records, answers, book) if records else ['no records'])
+    return strict_status(list(wrong_places(records, answers, book)) if options.strict else [])
 
 
 # ---- the program
 
 def run(arguments):
+    """The exit status."""
     parsed = parse_run(arguments)
     if any(options.command == 'explain' for options in parsed):
         if len(parsed) > 1:
             raise BadArgument("explain stands alone, without 'then'")
-        print('\n'.join(explain(parsed[0])), flush=True)
-        return
+        return explain(parsed[0])
     records = []
     for options in parsed:
         data = sample() if options.command == 'sample' else make(options)
         records += [data[start:start + LENGTH] for start in range(0, len(data), LENGTH)]
     write_records(records, parsed)
+    return 0
 
 
 def main(arguments):
     try:
-        run(arguments)
-    except BadArgument as error:
+        try:
+            return run(arguments)
+        except HelpAsked as asked:
+            write_output([str(asked).encode()])
+            return 0
+    except (BadArgument, BadStream) as error:
         text = str(error)
-        print(text if text.startswith('records.py') else f'records.py: {text}', file=sys.stderr)
-        return 2
-    except OSError as error:
-        print(f"records.py: {error.filename or 'standard output'}: {error.strerror}", file=sys.stderr)
-        if error.filename is None:
-            # What is left unwritten must not fail once more at exit.
-            os.dup2(os.open(os.devnull, os.O_WRONLY), sys.stdout.fileno())
-        return 2
-    return 0
+        complain(text if text.startswith('records.py') else f'records.py: {text}')
+    except MemoryError:
+        complain('records.py: there is not enough memory')
+    except KeyboardInterrupt:
+        complain('records.py: interrupted')
+    return 2
 
 
 if __name__ == '__main__':

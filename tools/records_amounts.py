@@ -4,6 +4,7 @@ import argparse
 import re
 
 WEEKDAYS = ('Monday', 'Tuesday', 'Wednesday', 'Thursday', 'Friday', 'Saturday', 'Sunday')
+LEAST_WORD, MOST_WORD = -2**31, 2**31 - 1
 
 
 class BadArgument(argparse.ArgumentTypeError):
@@ -12,10 +13,19 @@ class BadArgument(argparse.ArgumentTypeError):
 
 # ---- reading
 
+def number_of_digits(sign, digits):
+    """No bound here has thirty digits, and no text of more is worth a line."""
+    digits = digits.lstrip('0') or '0'
+    if len(digits) > 30:
+        raise BadArgument(f'a number of {len(digits)} digits, {sign}{digits[:10]}.., is outside every range there is')
+    return int(sign + digits)
+
+
 def whole(text):
-    if not re.fullmatch(r'-?[0-9]{1,20}', text):
+    match = re.fullmatch(r'(-?)([0-9]+)', text)
+    if not match:
         raise BadArgument(f"'{text}' is not a whole number")
-    return int(text)
+    return number_of_digits(*match.groups())
 
 
 def within(value, lowest, highest, what):
@@ -25,18 +35,22 @@ def within(value, lowest, highest, what):
 
 
 def word(text):
-    return within(whole(text), -2**31, 2**31 - 1, 'a signed 32-bit word:')
+    return within(whole(text), LEAST_WORD, MOST_WORD, 'a signed 32-bit word:')
 
 
 def whole_parts(text, places, message):
     """A decimal number with at most so many places, counted in units of its last place."""
-    match = re.fullmatch(r'(-?)([0-9]{1,12})(?:\.([0-9]+))?', text)
+    match = re.fullmatch(r'(-?)([0-9]+)(?:\.([0-9]+))?', text)
     if not match:
         raise BadArgument(f"'{text}' is not a decimal number")
     sign, units, decimals = match.group(1), match.group(2), match.group(3) or ''
     if len(decimals) > places:
         raise BadArgument(f"'{text}': {message}")
-    return word(sign + units + decimals.ljust(places, '0'))
+    value = number_of_digits('', units) * 10**places + int(decimals.ljust(places, '0'))
+    value = -value if sign else value
+    if not LEAST_WORD <= value <= MOST_WORD:
+        raise BadArgument(f"'{text}' is outside {show_parts(LEAST_WORD, places)} to {show_parts(MOST_WORD, places)}, what a record's word can hold")
+    return value
 
 
 def dollars(text):
@@ -54,6 +68,8 @@ def with_unit(text, units, parts, plain):
             return parts(text[:-len(unit)])
     if re.fullmatch(r'-?[0-9]+\.[0-9]*', text):
         raise BadArgument(f"'{text}': write {plain}, or the unit: {text}{units[0]}")
+    if not re.fullmatch('-?[0-9]+', text):
+        raise BadArgument(f"'{text}' is not a whole number, nor one with {' or '.join(units)}")
     return word(text)
 
 
@@ -104,7 +120,7 @@ def minute(text):
     if '/' not in text:
         return word(text)
     day, time = text.split('/', 1)
-    return within(1440 * within(whole(day), 0, 2**31 - 1, 'day') + time_of_day(time, text), 0, 2**31 - 1, 'minute')
+    return within(1440 * within(whole(day), 0, MOST_WORD, 'day') + time_of_day(time, text), 0, MOST_WORD, 'minute')
 
 
 def half_hour(minutes, text):

@@ -1,6 +1,7 @@
 """The words of tools/records.py's command line: commands, options and their --help.
 Errors are one line; an option given twice, or an abbreviation, is one."""
 import argparse
+import re
 from functools import lru_cache
 
 from records_amounts import BadArgument, minute, mw_pairs, pairs, period, proportion, quantity, ramp, slot, whole, within, word
@@ -8,6 +9,8 @@ from records_explain import CAPABILITY
 from records_layout import CALLS, KINDS, NOTICES, REASONS, SERVICES
 
 TOP = '''\
+usage: records.py COMMAND ..
+
 Makes and explains records of the half-hour offer book. A record is 112 bytes, so it goes to a
 file or a pipe, or with --hex to the screen. Nothing is filed: give the records to the program.
 
@@ -20,7 +23,7 @@ Each has its own --help. For example:
       --mw 50.0@40.00,20.0@50.00 --append day.records
   records.py variation --facility 0 --service energy --period 4 --pairs 300@4000 --hex
   records.py clock --minute 1/00:00 then total --service energy --period 340 > two.records
-  records.py explain day.records
+  records.py explain --brief day.records --answers day.answers
   records.py explain --answer 17 0 0
 
 Amounts are exact. A plain whole number is in the record's unit: tenths of a MW, tenths of a MW
@@ -28,18 +31,39 @@ per minute, thousandths. With its unit written it is read in that: 130.0MW, 1.5M
 Pairs are tenths@cents after --pairs, MW@dollars after --mw.
 Minutes count from the start of day 0, a Monday, or are DAY/HH:MM. Period P starts at minute
 30 P, or is the DAY/HH:MM of its start. Slots are 0 to 335, or Mon/02:00.
-'then' joins several calls into one run of records.
+'then' joins several calls into one run of records. For FILE, - is standard input or output.
 
 A record that any book refuses, whatever it holds, is not made unless --anyway is given.
-Exit status: 0, or 2 with one line on standard error. docs/REFUSALS.md explains the numbers.'''
+Exit status: 0; 1 where explain --strict finds something wrong; else 2, with one line on
+standard error, also where a reader such as head closes the pipe before all is written.
+docs/REFUSALS.md explains the numbers.
+'''
+
+
+class HelpAsked(Exception):
+    """The text of --help."""
+
+
+class Help(argparse.Action):
+    def __call__(self, parser, options, value, option=None):
+        raise HelpAsked(parser.format_help())
 
 
 class Parser(argparse.ArgumentParser):
+    """Help goes the way of all output, and is as wide on every terminal."""
+
     def __init__(self, **settings):
-        super().__init__(allow_abbrev=False, formatter_class=argparse.RawDescriptionHelpFormatter, **settings)
+        super().__init__(allow_abbrev=False, add_help=False,
+                         formatter_class=lambda prog: argparse.RawDescriptionHelpFormatter(prog, width=96), **settings)
+        self.add_argument('-h', '--help', action=Help, nargs=0, help='show this help')
 
     def error(self, message):
         raise BadArgument(f'{self.prog}: {message} (--help tells more)')
+
+
+class TopParser(Parser):
+    def format_help(self):
+        return self.description
 
 
 class Once(argparse.Action):
@@ -81,6 +105,22 @@ def notice(text):
     return within(named(NOTICES, 'notice')(text), 0, 255, 'notice')
 
 
+def call(text):
+    return within(named(CALLS, 'call')(text), 0, 255, 'call')
+
+
+def input_name(text):
+    if text == '':
+        raise BadArgument("an empty name: give a file's, or - for standard input")
+    return text
+
+
+def output_name(text):
+    if text == '':
+        raise BadArgument("an empty name: give a file's, or - for standard output")
+    return text
+
+
 def services(text):
     marks = [service(part) for part in text.split(',')]
     if len(set(marks)) < len(marks):
@@ -94,8 +134,8 @@ def add_output_options(parser):
     group = parser.add_argument_group('where the records go (standard output if nothing is said)')
     group.add_argument('--hex', action='store_true', help='write each record as a line of 224 hex digits')
     where = group.add_mutually_exclusive_group()
-    where.add_argument('--out', metavar='FILE', action=Once, help='write to FILE, replacing it')
-    where.add_argument('--append', metavar='FILE', action=Once, help='add to the end of FILE')
+    where.add_argument('--out', type=output_name, metavar='FILE', action=Once, help='write to FILE, replacing it; - is standard output')
+    where.add_argument('--append', type=output_name, metavar='FILE', action=Once, help='add to the end of FILE, which must hold whole records of the same form')
     where.add_argument('--terminal', action='store_true', help='write bytes even to a terminal')
 
 
@@ -158,28 +198,45 @@ def amount_of(option):
 
 
 def add_explain_options(parser):
-    parser.add_argument('file', nargs='?', metavar='FILE', help='records, one after another; - or nothing for standard input')
+    parser.add_argument('file', type=input_name, nargs='?', metavar='FILE',
+                        help='records one after another, or lines of hex digits; - or nothing for standard input')
+    parser.add_argument('--brief', action='store_true', help='one line a record with its answer, in columns')
+    parser.add_argument('--answers', type=input_name, metavar='FILE', action=Once, help='answers, a line for each record')
+    parser.add_argument('--facilities', type=word, action=Once, metavar='F', help="the book's F, 64 if left out")
+    parser.add_argument('--services', type=word, action=Once, metavar='S', help="the book's S, 5 if left out")
+    parser.add_argument('--strict', action='store_true',
+                        help='status 1 where the record test refuses a record, or no book gives an answer')
     parser.add_argument('--whole', action='store_true', help='take FILE as one record, whatever its length')
-    parser.add_argument('--record', metavar='HEX', action=Once, help='one record in hex digits')
-    parser.add_argument('--answer', nargs='+', metavar='N', action=Once, help='an answer: number, word 0, sum; or number, 24 words, sum')
-    parser.add_argument('--answers', metavar='FILE', action=Once, help='answers, a line for each record of FILE')
-    parser.add_argument('--call', type=named(CALLS, 'call'), action=Once, metavar='CALL', help='the call that --answer answers')
-    parser.add_argument('--facilities', type=word, default=64, metavar='F', help="the book's F for the record test, 64 if left out")
-    parser.add_argument('--services', type=word, default=5, metavar='S', help="the book's S for the record test, 5 if left out")
+    parser.add_argument('--record', metavar='HEX', action=Once, help='one record in hex digits, in place of FILE')
+    parser.add_argument('--answer', nargs='+', metavar='N', action=Once, help='an answer alone: number, word 0, sum; or number, 24 words, sum')
+    parser.add_argument('--call', type=call, action=Once, metavar='CALL', help='the call that --answer answers: ' + ', '.join(CALLS.values()) + ', or 1 to 9')
+    parser.add_argument('--damaged', action='store_true', help='let --call be none of the nine')
 
 
 @lru_cache(maxsize=1)
 def parser_of_all():
     others = {'sample': "writes document 01's worked run, nine records", 'explain': 'says what records and answers mean'}
-    texts = {name: text for name, (text, _) in COMMANDS.items()} | others
-    top = Parser(prog='records.py', description=TOP.format(commands='\n'.join(f'  {name:<12}{text}' for name, text in texts.items())))
-    commands = top.add_subparsers(dest='command', required=True, metavar='COMMAND', parser_class=Parser, help='one of those above')
+    texts = {**{name: text for name, (text, _) in COMMANDS.items()}, **others}
+    top = TopParser(prog='records.py', description=TOP.format(commands='\n'.join(f'  {name:<12}{text}' for name, text in texts.items())))
+    commands = top.add_subparsers(dest='command', required=True, metavar='COMMAND', parser_class=Parser)
     parsers = {name: commands.add_parser(name, description=text) for name, text in texts.items()}
     for name in COMMANDS:
         add_call_options(name, parsers[name])
     add_output_options(parsers['sample'])
     add_explain_options(parsers['explain'])
     return top
+
+
+def with_values(words):
+    """What starts like a negative number is the value of the option before it; argparse takes -50@40 for an option."""
+    joined = []
+    for text in words:
+        is_value = re.match(r'-[0-9.]', text) and not re.fullmatch(r'-[0-9]+|-[0-9]*\.[0-9]+', text)
+        if is_value and joined and re.fullmatch(r'--[a-z-]+', joined[-1]):
+            joined[-1] += '=' + text
+        else:
+            joined.append(text)
+    return joined
 
 
 def parse_run(words):
@@ -191,4 +248,4 @@ def parse_run(words):
         else:
             runs[-1].append(text)
     parser = parser_of_all()
-    return [parser.parse_args(run) for run in runs]
+    return [parser.parse_args(with_values(run)) for run in runs]

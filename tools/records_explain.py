@@ -1,8 +1,7 @@
-"""What a record or an answer says, in words: fields, stray bytes, the record test; refusals, offers in force, totals.
-The refusals' words are those of docs/REFUSALS.md, which has the market's clauses beside them."""
+"""What a record says, in words: its fields, stray bytes, the record test, and the command that makes it again."""
 from itertools import groupby
 
-from records_amounts import (BadArgument, show_minute, show_mw, show_period, show_price, show_proportion, show_ramp, show_slot, whole, within)
+from records_amounts import show_minute, show_mw, show_period, show_price, show_proportion, show_ramp, show_slot
 from records_layout import (CALLS, KINDS, LENGTH, NOTICES, REASONS, SERVICES, SERVICE_TEXTS, any_book_refuses, field_at, form_faults, offer_fields,
                             pairs_of, read, record_test, stray_bytes)
 
@@ -16,37 +15,6 @@ CAPABILITY = (
     ('max-primary-proportion', 'primary proportion maximum', show_proportion),
     ('max-secondary-proportion', 'secondary proportion maximum', show_proportion),
     ('max-contingency-proportion', 'contingency proportion maximum', show_proportion))
-
-# number: who draws it, what it means, what to correct
-REFUSALS = {
-    1: ('the host program', "the book's words are not a usable book: too few, wrong mark, version, F or S, or a damaged clock",
-        'nothing in the record; the host must lend the book as the last call left it'),
-    2: ('the host program', 'not a record: not 112 bytes, or mark, version or call wrong', 'the sending program, or the line'),
-    3: ('any sender', 'the book has no such facility or service', 'the facility (below F) or the service (below S)'),
-    4: ('any sender', 'a byte that the call does not use is not zero', 'clear it: explain the record to see which'),
-    5: ('any sender', 'the facility has no capability in the book', 'the facility; or file its capability first'),
-    6: ('the clock', 'the minute is before the clock, or above 1,000,000,000', 'the minute: the clock never goes back'),
-    7: ('the system operator', 'outage, notice or withdrawal out of bounds',
-        'outage: minute 0 to the clock, 1 to 3 periods (load 1 to 48); notice: 3, 4 or 5, 0 <= first <= last <= 40,000,000; withdrawal: 5 only'),
-    8: ('the system operator', 'capability out of bounds',
-        'kind 1 or 2 and as held before; maxima to 9999.9 MW, ramps to 999.9 MW/min, proportions to 1.000; no energy or regulation for a load'),
-    9: ('the coordinator', 'the facility is not registered for the service', 'the service; or have the capability filed with that mark'),
-    10: ('the coordinator or reader', 'slot outside 0 to 335, or the period has begun or is past the horizon',
-         'a period not yet begun, up to the end of the sixth day after the clock\'s'),
-    11: ('the coordinator', 'a reason above 6, a quantity outside 0.0 to 9999.9 MW, or a price outside its limits',
-         'that value; reserve and regulation prices start at 0.00'),
-    12: ('the coordinator', 'a pair of 0.0 MW has a price', 'make the price 0.00, or give a quantity'),
-    13: ('the coordinator', 'prices of non-blank pairs do not strictly rise', 'order the pairs by price; join pairs of one price'),
-    14: ('the coordinator', 'an energy ramp rate is below 0.0 or above its maximum', 'the ramp rate, to the capability'),
-    15: ('the coordinator', "a generation facility's reserve proportion is 0 or above its maximum", 'the proportion: 0.001 to the capability'),
-    16: ('the coordinator', 'the total is above a maximum: generation or combined (energy), or the service\'s own', 'the quantities, to the capability'),
-    17: ('the coordinator', 'gate closure: inside 65 minutes, and no reason given holds, or a price already offered changes',
-         'a variation with a reason that holds and unchanged prices; a held standing offer after its next period has begun'),
-    18: ('the coordinator', 'the standing offer is the one already held', 'nothing: it is held'),
-    19: ('the reader', 'no offer is in force', 'nothing: no standing offer or variation is held for it'),
-    20: ('the host program', 'opening or record test: F, S, the words lent or the price limits are wrong',
-         'F 1 to 64, S 1 or 5, enough words, limits within +-10,000,000 with lowest <= 0 <= highest'),
-}
 
 
 # ---- records
@@ -215,70 +183,3 @@ def command_for(data):
         return None
     return [CALLS[r.call]] + call_words(r) + (['--anyway'] if any_book_refuses(data)[0] else [])
 
-
-# ---- answers
-
-def read_answer(text):
-    """Number, words and sum of 'number word0 sum', or of number, 24 words and sum."""
-    numbers = [whole(part) for part in text.split()]
-    if len(numbers) not in (3, 26):
-        raise BadArgument(f'an answer is 3 numbers (number, word 0, sum) or 26 (number, 24 words, sum), not {len(numbers)}')
-    within(numbers[0], 0, 20, 'number')
-    for value in numbers[1:-1]:
-        within(value, -2**31, 2**31 - 1, 'word')
-    within(numbers[-1], -2**63, 2**63 - 1, 'sum')
-    return numbers[0], numbers[1:-1], numbers[-1]
-
-
-def refusal_lines(number, words, total):
-    who, means, correct = REFUSALS[number]
-    lines = [f'refused with {number}, drawn by {who}: {means}', f'to correct: {correct}', 'the book is unchanged']
-    if any(words) or total:
-        lines.append('damaged answer: beside a refusal all words and the sum are zero')
-    return lines
-
-
-def look_up_lines(words, total, service):
-    name = {1: 'standing offer', 2: 'variation'}.get(words[0])
-    if name is None:
-        return [f'damaged answer: word 0 of a look-up is 1 or 2, not {words[0]}']
-    lines = [f'the {name} is in force, {show_mw(total)} in all']
-    if len(words) == 24:
-        lines += aligned(offer_rows(service, words[1], words[2], words[3], words[4:])[:-1])
-        if sum(words[5::2]) != total:
-            lines.append(f'damaged answer: the quantities add up to {show_mw(sum(words[5::2]))}')
-    return lines
-
-
-def total_lines(words, total):
-    if not 0 <= words[0] <= 64 or any(words[1:]):
-        return ['damaged answer: a total counts 0 to 64 facilities in word 0, its other words are zero']
-    facilities = '1 facility has' if words[0] == 1 else f'{words[0]} facilities have'
-    return [f'{facilities} an offer in force, {show_mw(total)} in all']
-
-
-def accepted_lines(words, total):
-    if any(words) or total:
-        return ['damaged answer: beside this call all words and the sum are zero']
-    return ['accepted']
-
-
-def explain_answer(text, call=None, service=None):
-    """Lines for one answer; without its call, each reading that is possible."""
-    number, words, total = read_answer(text)
-    if number:
-        return refusal_lines(number, words, total)
-    if call == 8:
-        return look_up_lines(words, total, service)
-    if call == 9:
-        return total_lines(words, total)
-    if call is not None:
-        return accepted_lines(words, total)
-    if not any(words) and total == 0:
-        return ['accepted; or, answering a total: no facility has an offer in force']
-    if any(words[1:]):
-        return look_up_lines(words, total, service)
-    lines = ['answering a total: ' + line for line in total_lines(words, total)]
-    if words[0] in (1, 2):
-        lines = ['answering a look-up: ' + line for line in look_up_lines(words[:1], total, service)] + lines
-    return lines

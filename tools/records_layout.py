@@ -9,6 +9,7 @@ LENGTH = 112
 # 16-19 ramp up; 20-23 ramp down; 24-27 A; 28-31 B; 32-111 words W0 to W19", most significant byte first.
 FORM = struct.Struct('>3sHBBBiBBHiiii20i')
 MARK, VERSION = b'SOB', 1
+MOST_FACILITIES, MOST_SERVICES = 64, 5
 
 CALLS = {1: 'clock', 2: 'capability', 3: 'standing', 4: 'variation', 5: 'outage', 6: 'notice', 7: 'withdrawal', 8: 'look-up', 9: 'total'}
 SERVICES = ('energy', 'primary', 'secondary', 'contingency', 'regulation')
@@ -110,9 +111,13 @@ def stray_faults(data):
     return [f'byte {place} ({field_at(place)}) is {data[place]}, unused and not zero' for place in stray_bytes(data)]
 
 
+def are_sizes(facilities, services):
+    return 1 <= facilities <= MOST_FACILITIES and services in (1, MOST_SERVICES)
+
+
 def record_test(data, facilities, services):
     """The number 0, 2, 3, 4 or 20, and what draws it; 20 comes first."""
-    if not 1 <= facilities <= 64 or services not in (1, 5):
+    if not are_sizes(facilities, services):
         return 20, [f'F {facilities}, S {services}: F is 1 to 64 and S is 1 or 5']
     faults = form_faults(data)
     if faults:
@@ -127,6 +132,8 @@ def record_test(data, facilities, services):
 # ---- refusals that follow from the record alone, in any book that only calls have written
 
 LAST_CLOCK = 1_000_000_000
+LAST_NOTICE_PERIOD = 40_000_000
+LARGEST_LIMIT = 10_000_000
 LAST_PERIOD = 48 * (LAST_CLOCK // 1440 + 7) - 1
 
 
@@ -162,11 +169,11 @@ def offer_tests(r):
     pairs = pairs_of(r.words)
     prices = [price for price, quantity in pairs if quantity != 0]
     total = sum(quantity for _, quantity in pairs)
-    lowest = -10_000_000 if r.service == 0 else 0
+    lowest = -LARGEST_LIMIT if r.service == 0 else 0
     return [
         (r.reason > 6, 11, f'reason {r.reason} is above 6'),
         (outside([q for _, q in pairs], 0, 99_999), 11, 'a quantity is outside 0.0 to 9999.9 MW'),
-        (outside([p for p, _ in pairs], lowest, 10_000_000), 11, 'a price is beyond any limits the book can be opened with'),
+        (outside([p for p, _ in pairs], lowest, LARGEST_LIMIT), 11, 'a price is beyond any limits the book can be opened with'),
         (any(q == 0 and p != 0 for p, q in pairs), 12, 'a blank pair has a price'),
         (any(b <= a for a, b in zip(prices, prices[1:])), 13, 'prices of non-blank pairs do not strictly rise'),
         (outside((r.ramp_up, r.ramp_down), 0, 9_999), 14, 'a ramp rate is outside 0.0 to 999.9 MW/min'),
@@ -175,7 +182,7 @@ def offer_tests(r):
 
 def any_book_refuses(data):
     """A number and why: every book that only calls have written refuses the record with it, or with a lower one; else 0."""
-    number, faults = record_test(data, 64, 5)
+    number, faults = record_test(data, MOST_FACILITIES, MOST_SERVICES)
     if number:
         return number, faults[0]
     r = read(data)
@@ -192,7 +199,7 @@ def any_book_refuses(data):
                             (outside([r.b], 1, 48), 7, f'{r.b} periods: 1 to 3, for a load 1 to 48')])
     if r.call == 6:
         return first_fault([(r.reason not in NOTICES, 7, f'notice {r.reason} is not 3, 4 or 5'),
-                            (not 0 <= r.a <= r.b <= 40_000_000, 7, f'not 0 <= first {r.a} <= last {r.b} <= 40000000')])
+                            (not 0 <= r.a <= r.b <= LAST_NOTICE_PERIOD, 7, f'not 0 <= first {r.a} <= last {r.b} <= {LAST_NOTICE_PERIOD}')])
     if r.call == 7:
         return first_fault([(r.reason != 5, 7, 'only notice 5, system status, can be withdrawn')])
     return first_fault(period_tests(r))
