@@ -12,11 +12,12 @@ import sys
 HERE = os.path.dirname(os.path.abspath(__file__))
 sys.path.insert(0, HERE)
 
-from lists import damaged_books, largest_book, no_kind, openings, proportions, record_tests, sound_books, unusable_books  # noqa: E402
+from lists import (damaged_books, filing_edges, largest_book, no_kind, openings, proportions, record_tests, sound_books,  # noqa: E402
+                   unusable_books)
 from lists.form import Script  # noqa: E402
 
 FILES = {module.__name__.split('.')[-1]: module for module in
-         (openings, unusable_books, record_tests, no_kind, proportions, sound_books, damaged_books, largest_book)}
+         (openings, unusable_books, record_tests, no_kind, proportions, filing_edges, sound_books, damaged_books, largest_book)}
 
 
 def answered(program, name, script):

@@ -109,7 +109,7 @@ class Script:
         self.ids = []
 
     def list(self, identity, sentence):
-        assert ' ' not in identity and ':' not in identity and sentence.endswith('.')
+        assert ' ' not in identity and ':' not in identity and sentence.endswith('.') and sentence.isascii()
         self.ids.append(identity)
         self.lines.append(f'# {identity}: {sentence}')
         self.expected.append(None)
