@@ -1,4 +1,5 @@
-/* The opening's number and words, and then the words of each accepted call, oldest first; each quotation is from document 01. */
+/* The opening's number and words, and then the words of each accepted call, oldest first; quotations are from
+ * document 01. */
 #include "listed_words.h"
 
 #include <string.h>

@@ -49,7 +49,9 @@ bool read_word(const char *text, int32_t *value)
     bool is_negative = text[0] == '-';
     const char *digits = text + is_negative;
     size_t length = strlen(digits);
-    if (length == 0 || length > 10 || strspn(digits, "0123456789") != length || (digits[0] == '0' && (length > 1 || is_negative)))
+    if (length == 0 || length > 10 || strspn(digits, "0123456789") != length)
+        return false;
+    if (digits[0] == '0' && (length > 1 || is_negative))
         return false;
     int64_t n = strtoll(text, NULL, 10);
     if (n < INT32_MIN || n > INT32_MAX)

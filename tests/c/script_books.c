@@ -240,7 +240,7 @@ static void check(struct place *p, bool ok, const char *what, const char *got, c
     if (p->run->shown > 0) {
         p->run->shown--;
         FILE *out = p->run->answered ? stderr : stdout;
-        fprintf(out, "%s:%ld: %s%s%s%s\n", p->run->file, p->line, p->list, p->list[0] ? ": " : "", what, got ? ":" : "");
+        fprintf(out, "%s:%ld: %s%s%s\n", p->run->file, p->line, p->list, p->list[0] ? ": " : "", what);
         if (got)
             fprintf(out, "  answered %s\n  expected %s\n", got, expected);
     }
@@ -267,10 +267,10 @@ static void compare(struct place *p, struct books *b, const struct answers *a, c
             check(p, strcmp(a->by[i].text, expected) == 0, who[i], a->by[i].text, expected);
     check(p, guards_stand(b->library, b->lent), "the library wrote outside the words", NULL, NULL);
     if (b->lent <= WORDS_COMPARED_EACH_LINE)
-        check(p, same_words(b->library, b->plain, b->lent), "the words of the library and of the plain book differ", NULL, NULL);
+        check(p, same_words(b->library, b->plain, b->lent), "the two books' words differ", NULL, NULL);
     if (b->machine_follows && b->lent <= WORDS_LISTED_EACH_LINE) {
         listed_words(&b->machine, b->listed);
-        check(p, same_words(b->library, b->listed, b->lent), "the words aren't those of the accepted calls", NULL, NULL);
+        check(p, same_words(b->library, b->listed, b->lent), "the words aren't the accepted calls'", NULL, NULL);
     }
 }
 

@@ -1,5 +1,5 @@
-/* Runs the scripts of tests/vectors, and tests the reader on copies of them with wrong answers and on lines that aren't
- * of the form. Arguments: the files. `scripts_test --answers` reads a script without answers and prints it with them. */
+/* Runs the scripts of tests/vectors, and tests the reader on copies of them with wrong answers and on wrong lines.
+ * Arguments: the files. `scripts_test --answers` reads a script without answers and prints it with them. */
 #include "script.h"
 #include "script_books.h"
 
@@ -92,20 +92,45 @@ static void test_lines(void)
 {
     static const char opening[] = "open 0 1 1 -5 5 5 5 5 5 0 = 0\n";
     static const char *const wrong[] = {
-        "opens 0 1 1 -5 5 5 5 5 5 0 = 0", "explain 00 = 2 0 0", "words",          "words =0",
-        "words = ",                       "words  = 1",         " words = 1",     "words 1 = 1",
-        "open 1 1 1 -5 5 5 5 5 5 0 = 0",  "open 0 1 1 -5 5 5 5 5 5 = 0",          "open 0 1 1 -5 5 5 5 5 5 +1 = 0",
-        "open 0 1 1 -5 5 5 5 5 5 00 = 0", "open 0 1 1 -5 5 5 5 5 2147483648 0 = 20", "open 0 1 1 -5 5 5 5 5 5 -16225 = 20",
-        "open 0 0 1 -5 5 5 5 5 5 -1 = 20", "open 0 1 1 -5 5 5 5 5 5 0 = 20",      "open 0 0 1 -5 5 5 5 5 5 0 = 0",
-        "write 0 =",                      "write 16224 0 =",    "write -1 0 =",   "write 0 0 = 0",
-        "call 5 = 2 0 0 0 0 0 0 0 0 0 0 0 0 0 0 0 0 0 0 0 0 0 0 0 0 0",           "call zz = 2",
+        "opens 0 1 1 -5 5 5 5 5 5 0 = 0",
+        "explain 00 = 2 0 0",
+        "words",
+        "words =0",
+        "words = ",
+        "words  = 1",
+        " words = 1",
+        "words 1 = 1",
+        "open 1 1 1 -5 5 5 5 5 5 0 = 0",
+        "open 0 1 1 -5 5 5 5 5 5 = 0",
+        "open 0 1 1 -5 5 5 5 5 5 +1 = 0",
+        "open 0 1 1 -5 5 5 5 5 5 00 = 0",
+        "open 0 1 1 -5 5 5 5 5 2147483648 0 = 20",
+        "open 0 1 1 -5 5 5 5 5 5 -16225 = 20",
+        "open 0 0 1 -5 5 5 5 5 5 -1 = 20",
+        "open 0 1 1 -5 5 5 5 5 5 0 = 20",
+        "open 0 0 1 -5 5 5 5 5 5 0 = 0",
+        "write 0 =",
+        "write 16224 0 =",
+        "write -1 0 =",
+        "write 0 0 = 0",
+        "call 5 = 2 0 0 0 0 0 0 0 0 0 0 0 0 0 0 0 0 0 0 0 0 0 0 0 0 0",
+        "call zz = 2 0 0 0 0 0 0 0 0 0 0 0 0 0 0 0 0 0 0 0 0 0 0 0 0 0",
         "call - = 2 0 0 0 0 0 0 0 0 0 0 0 0 0 0 0 0 0 0 0 0 0 0 0 0",
         "call - = 2 0 0 0 0 0 0 0 0 0 0 0 0 0 0 0 0 0 0 0 0 0 0 0 0 0 0",
-        "test - 1 = 2",                   "test - 1 5 = 0",     "test - 0 5 = 2", "test - 1 5 = 2\r", "",
+        "test - 1 = 2",
+        "test - 1 5 = 0",
+        "test - 0 5 = 2",
+        "test - 1 5 = 2\r",
+        "",
     };
     static const char *const right[] = {
-        "call - = 2 0 0 0 0 0 0 0 0 0 0 0 0 0 0 0 0 0 0 0 0 0 0 0 0 0", "test - 1 5 = 2", "test - 0 5 = 20",
-        "write 0 1 =", "open 0 0 1 -5 5 5 5 5 5 0 = 20", "# a comment", "open 0 1 1 -5 5 5 5 5 5 -16224 = 20",
+        "call - = 2 0 0 0 0 0 0 0 0 0 0 0 0 0 0 0 0 0 0 0 0 0 0 0 0 0",
+        "test - 1 5 = 2",
+        "test - 0 5 = 20",
+        "write 0 1 =",
+        "open 0 0 1 -5 5 5 5 5 5 0 = 20",
+        "open 0 1 1 -5 5 5 5 5 5 -16224 = 20",
+        "# a comment",
     };
     char text[512];
     for (size_t i = 0; i < sizeof wrong / sizeof wrong[0]; i++) {
@@ -129,8 +154,9 @@ static void test_checksum(void)
 {
     static const uint8_t digits[9] = {'1', '2', '3', '4', '5', '6', '7', '8', '9'};
     static const int32_t words[2] = {0x31323334, 0x35363738};
-    check(checksum_of_bytes(CHECKSUM_START, digits, 9) == UINT32_C(3421780262), "checksum", "of the nine digits, 3421780262");
-    check(checksum_of_bytes(checksum(CHECKSUM_START, words, 2), digits + 8, 1) == UINT32_C(3421780262), "checksum",
+    const uint32_t known = UINT32_C(3421780262);
+    check(checksum_of_bytes(CHECKSUM_START, digits, 9) == known, "checksum", "of the nine digits, 3421780262");
+    check(checksum_of_bytes(checksum(CHECKSUM_START, words, 2), digits + 8, 1) == known, "checksum",
           "words are taken most significant byte first");
 }
 

@@ -5,7 +5,9 @@ target/ctest/scripts_test, which runs the library, the plain book and the list m
 With `--check` nothing is written: status 1 where a file isn't what would be made.
 """
 import argparse
+import inspect
 import os
+import re
 import subprocess
 import sys
 
@@ -20,6 +22,16 @@ FILES = {module.__name__.split('.')[-1]: module for module in
          (openings, unusable_books, record_tests, no_kind, proportions, filing_edges, sound_books, damaged_books, largest_book)}
 
 
+def script_of(module):
+    """Each public function of the module is a list: its name the id, its docstring the sentence."""
+    script = Script()
+    for name, function in vars(module).items():
+        if inspect.isfunction(function) and function.__module__ == module.__name__ and not name.startswith('_'):
+            script.list(name.replace('_', '-'), function.__doc__)
+            function(script)
+    return script
+
+
 def answered(program, name, script):
     """The script with its answers; it ends the program where the books part, or an answer isn't the one that the list states."""
     questions = '\n'.join(script.lines) + '\n'
@@ -29,17 +41,11 @@ def answered(program, name, script):
     lines = ran.stdout.splitlines()
     assert len(lines) == len(script.lines)
     wrong = []
-    for number, (question, line, stated) in enumerate(zip(script.lines, lines, script.expected), 1):
-        if stated is None:
-            identity = question.split(': ')[0]
-            continue
+    for place, (question, line, stated) in enumerate(zip(script.lines, lines, script.stated), 1):
         assert line.startswith(question)
         answer = line[len(question) + 1:]
-        start, end = stated
-        number_stated = start.split(' ')[0] if question.startswith('call') else None
-        right = answer.startswith(start) and answer.endswith(end) if number_stated is not None else answer == start or question.startswith('words')
-        if not right:
-            wrong.append(f'{name}.txt:{number}: {identity}: stated {start}..{end}, answered {answer}')
+        if stated is not None and not re.fullmatch(stated, answer):
+            wrong.append(f'{name}.txt:{place}: stated {stated}, answered {answer}')
     if wrong:
         sys.exit('\n'.join(wrong[:20]))
     return ran.stdout
@@ -52,8 +58,7 @@ def main():
     arguments = parser.parse_args()
     ids, differs = [], []
     for name, module in FILES.items():
-        script = Script()
-        module.make(script)
+        script = script_of(module)
         ids += script.ids
         text = answered(arguments.program, name, script)
         path = os.path.join(HERE, name + '.txt')

@@ -1,6 +1,9 @@
 """Books whose words no list of calls could have left: what the calls answer from them, by the words that are there."""
 from .form import (GENERATION, LEAST, LOAD, MOST, block, capability, cell, clock, look_up, notice, outage, standing, total, variation, with_words, withdrawal)
 
+# Facility 0's cells for energy and slot 100 in a book of one facility and one service
+STANDING_AT, VARIATION_AT = cell(1, 1, 0, 0, 0, 100), cell(1, 1, 0, 0, 1, 100)
+
 
 def _energy_book(t, now, F=1, S=1):
     """Facility 0 is generation with 70 tenths at 40.00 standing for slot 100."""
@@ -16,32 +19,33 @@ def _pairs_at(at, pairs):
     return {at + 4 + i: n for i, n in enumerate(n for pair in pairs for n in pair)}
 
 
-def make(t):
-    standing_at, variation_at = cell(1, 1, 0, 0, 0, 100), cell(1, 1, 0, 0, 1, 100)
 
-    t.list('variation-stamps', 'A variation cell whose stamp names another period, or none: the standing offer answers; the named period finds it.')
+def variation_stamps(t):
+    """A variation cell whose stamp names another period, or none: the standing offer answers; the named period finds it."""
     _energy_book(t, 0)
     t.call(variation(0, 0, 100, [(4000, 80)]))
     t.call(look_up(0, 0, 100), 0, 2, 80)
     for stamp in (0, 1, 2, 100, 102, 436, 437, 438, -101, -1, LEAST, MOST, 101 + 65536):
-        t.write({variation_at: stamp})
+        t.write({VARIATION_AT: stamp})
         t.call(look_up(0, 0, 100), 0, 1, 70)
         t.call(total(0, 100), 0, 1, 70)
-    t.write({variation_at: 101})
+    t.write({VARIATION_AT: 101})
     t.call(look_up(0, 0, 100), 0, 2, 80)
-    t.write({variation_at: 437, 4: 4320})
+    t.write({VARIATION_AT: 437, 4: 4320})
     t.call(look_up(0, 0, 436), 0, 2, 80)
     t.call(total(0, 436), 0, 1, 80)
-    t.write({variation_at: 101})
+    t.write({VARIATION_AT: 101})
     t.call(look_up(0, 0, 436), 0, 1, 70)
     t.call(variation(0, 0, 436, [(4000, 90)]))
     t.call(look_up(0, 0, 436), 0, 2, 90)
     t.words()
 
-    t.list('standing-stamps', 'A standing cell whose stamp isn\'t 1 holds nothing: 19, no count, and what is filed there is a first.')
+
+def standing_stamps(t):
+    """A standing cell whose stamp isn't 1 holds nothing: 19, no count, and what is filed there is a first."""
     _energy_book(t, 0)
     for stamp in (0, 2, 3, -1, 101, 257, 65537, 1 << 24, LEAST, MOST):
-        t.write({standing_at: stamp, 4: 0})
+        t.write({STANDING_AT: stamp, 4: 0})
         t.call(look_up(0, 0, 100), 19)
         t.call(total(0, 100))
         t.write({4: 2999})
@@ -50,7 +54,9 @@ def make(t):
         t.call(look_up(0, 0, 100), 0, 1, 70)
     t.words()
 
-    t.list('clock-put-back', 'The host puts the clock back: a variation whose period had begun answers again, and its cell is its own.')
+
+def clock_put_back(t):
+    """The host puts the clock back: a variation whose period had begun answers again, and its cell is its own."""
     _energy_book(t, 0)
     t.call(variation(0, 0, 100, [(4000, 80)]))
     t.call(clock(3000))
@@ -63,7 +69,9 @@ def make(t):
     t.call(total(0, 100), 0, 1, 81)
     t.words()
 
-    t.list('negative-quantities-in-the-gate', 'A held quantity below 0 counts as 0 in the gate, its price isn\'t compared, and sums add it as it is.')
+
+def negative_quantities_in_the_gate(t):
+    """A held quantity below 0 counts as 0 in the gate, its price isn't compared, and sums add it as it is."""
     _energy_book(t, 2990)
     t.call(notice(3, 100, 100))
     t.call(notice(4, 100, 100))
@@ -73,17 +81,19 @@ def make(t):
             ([(4000, 30), (5, LEAST), (4000, 40)], ((4, [(4000, 71)], 0), (3, [(4000, 69)], 0), (4, [(4000, 70)], 17), (1, [(4000, 31), (5000, 1)], 17))),
             ([(4000, LEAST)] * 10, ((4, [(1, 1)], 0), (3, [], 17), (4, [], 17), (1, [(7, 5)], 0))),
             ([(4000, -1)], ((3, [], 17), (4, [(5, 1)], 0)))):
-        t.write({**_pairs_at(standing_at, pairs), variation_at: 0})
-        quantities = sum(q for p, q in pairs)
+        t.write({**_pairs_at(STANDING_AT, pairs), VARIATION_AT: 0})
+        quantities = sum(quantity for _, quantity in pairs)
         t.call(look_up(0, 0, 100), 0, 1, quantities)
         t.call(total(0, 100), 0, 1, quantities)
         for reason, new, number in reasons:
             t.call(variation(0, 0, 100, new, reason), number)
             if number == 0:
-                t.write({variation_at: 0})
+                t.write({VARIATION_AT: 0})
     t.words()
 
-    t.list('negative-quantities-in-a-variation', 'The same where the damaged offer is a variation, in the reserve\'s five pairs and in those it doesn\'t use.')
+
+def negative_quantities_in_a_variation(t):
+    """Negative quantities in the gate where the damaged offer is a variation, in the reserve's five pairs and in those it doesn't use."""
     t.open(1, 5)
     t.call(capability(0, GENERATION))
     t.call(clock(2900))
@@ -103,7 +113,9 @@ def make(t):
     t.call(variation(0, 1, 100, [(40, 81)], 5, 1))
     t.words()
 
-    t.list('sums-past-32-bits', 'Ten quantities at either end of a word: look-up and total add in 64 bits, over seven facilities.')
+
+def sums_past_32_bits(t):
+    """Ten quantities at either end of a word: look-up and total add in 64 bits, over seven facilities."""
     t.open(7, 1)
     for f in range(7):
         t.call(capability(f, GENERATION))
@@ -118,13 +130,15 @@ def make(t):
     t.call(look_up(3, 0, 60), 0, 1, -5)
     t.words()
 
-    t.list('old-total-past-32-bits', 'Inside the gate the held total is counted in 64 bits: one of 2^32 isn\'t 0, and one of 2^32 + 5 isn\'t 5.')
+
+def old_total_past_32_bits(t):
+    """Inside the gate the held total is counted in 64 bits: one of 2^32 isn't 0, and one of 2^32 + 5 isn't 5."""
     _energy_book(t, 2990)
     t.call(notice(3, 100, 100))
     t.call(notice(4, 100, 100))
     for pairs in ([(4000, MOST)] * 10, [(4000, MOST), (4000, MOST), (4000, 2)], [(4000, MOST), (4000, MOST), (4000, 7)], [(4000, MOST), (4000, 1)], [(4000, 1 << 30)] * 4):
-        t.write({**_pairs_at(standing_at, pairs), variation_at: 0})
-        t.call(look_up(0, 0, 100), 0, 1, sum(q for p, q in pairs))
+        t.write({**_pairs_at(STANDING_AT, pairs), VARIATION_AT: 0})
+        t.call(look_up(0, 0, 100), 0, 1, sum(quantity for _, quantity in pairs))
         t.call(variation(0, 0, 100, [(4000, 1)], 4), 17)
         t.call(variation(0, 0, 100, [(4000, 800)], 4), 17)
         t.call(variation(0, 0, 100, [(4001, 800)], 3), 17)
@@ -133,7 +147,9 @@ def make(t):
         t.call(look_up(0, 0, 100), 0, 2, 800)
     t.words()
 
-    t.list('prices-out-of-order', 'Held prices that fall, repeat, lie past the limits or stand on blanks: compared in their order, tenth by tenth.')
+
+def prices_out_of_order(t):
+    """Held prices that fall, repeat, lie past the limits or stand on blanks: compared in their order, tenth by tenth."""
     _energy_book(t, 2990)
     for pairs, tries in (
             ([(4000, 5), (3000, 5)], (([(4000, 5)], 0), ([(4000, 6)], 17), ([(3000, 5), (4000, 5)], 17))),
@@ -144,11 +160,13 @@ def make(t):
             ([(0, 1)] * 10, (([(0, 10)], 0), ([(0, 11)], 0), ([(0, 1), (1, 9)], 17))),
             ([(i, 1) for i in range(9, -1, -1)], (([(9, 1)], 0), ([(9, 2)], 17), ([(0, 1)], 17)))):
         for new, number in tries:
-            t.write({**_pairs_at(standing_at, pairs), variation_at: 0})
+            t.write({**_pairs_at(STANDING_AT, pairs), VARIATION_AT: 0})
             t.call(variation(0, 0, 100, new, 1), number)
     t.words()
 
-    t.list('windows-damaged', 'Windows with first above last and at the ends of a word: a period is in one where first <= P <= last, whatever they hold.')
+
+def windows_damaged(t):
+    """Windows with first above last and at the ends of a word: a period is in one where first <= P <= last, whatever they hold."""
     t.open(2, 5)
     t.call(capability(0, GENERATION))
     t.call(capability(1, LOAD))
@@ -165,7 +183,9 @@ def make(t):
     t.call(notice(3, 1, 2))
     t.words()
 
-    t.list('marks-damaged', 'Marks other than 0 and 1 aren\'t 1: 9 for each service, by kind; a load with marks 0 and 4 set files by them.')
+
+def marks_damaged(t):
+    """Marks other than 0 and 1 aren't 1: 9 for each service, by kind; a load with marks 0 and 4 set files by them."""
     t.open(2, 5)
     t.call(capability(0, GENERATION))
     t.call(capability(1, with_words(LOAD, {1: 500, 2: 500, 6: 500, 7: 5, 8: 5})))
@@ -182,7 +202,9 @@ def make(t):
     t.call(capability(1, with_words(LOAD, {12: 1})), 8)
     t.words()
 
-    t.list('maxima-damaged', 'Maxima below 0 refuse a blank offer too, with 14 or 16; maxima past any total let 999,990 tenths pass.')
+
+def maxima_damaged(t):
+    """Maxima below 0 refuse a blank offer too, with 14 or 16; maxima past any total let 999,990 tenths pass."""
     t.open(1, 5)
     t.call(capability(0, GENERATION))
     for word, s, number in ((1, 0, 16), (2, 0, 16), (3, 1, 16), (4, 2, 16), (5, 3, 16), (6, 4, 16), (7, 0, 14), (8, 0, 14)):
@@ -201,7 +223,9 @@ def make(t):
     t.call(total(4, 60), 0, 1, 499_995)
     t.words()
 
-    t.list('limits-damaged', 'Limits that exclude 0 make every blank draw 11; limits at the ends of a word let any price pass; below 0, ten pairs may.')
+
+def limits_damaged(t):
+    """Limits that exclude 0 make every blank draw 11; limits at the ends of a word let any price pass; below 0, ten pairs may."""
     t.open(1, 5)
     t.call(capability(0, GENERATION))
     t.write({11: 1})
@@ -225,7 +249,9 @@ def make(t):
         t.call(variation(0, s, 60, [(-1, 7)], 0, 1 if s < 4 else 0), 11)
     t.words()
 
-    t.list('reserved-words', 'Head words 17 to 63 and words 19 to 31 of a facility are never tested nor written.')
+
+def reserved_words(t):
+    """Head words 17 to 63 and words 19 to 31 of a facility are never tested nor written."""
     _energy_book(t, 7, F=2)
     t.write({i: -i for i in range(17, 64)})
     t.write({block(f) + i: MOST - i for f in (0, 1) for i in range(19, 32)})
@@ -241,7 +267,9 @@ def make(t):
     t.call(total(0, 100), 0, 2, 11)
     t.words()
 
-    t.list('held-words-are-shown', 'A look-up gives words 1 to 23 of the cell as they are, whatever the service uses; so does the test for a duplicate take them.')
+
+def held_words_are_shown(t):
+    """A look-up gives words 1 to 23 of the cell as they are, whatever the service uses; so does the test for a duplicate take them."""
     t.open(1, 5)
     t.call(capability(0, GENERATION))
     for s in range(5):
@@ -262,7 +290,9 @@ def make(t):
         t.call(look_up(0, s, 60), 0, 1, sum(1005 + 2 * i for i in range(10)))
     t.words()
 
-    t.list('cells-without-a-kind', 'Filled cells of a facility that has no kind: counted by totals, 5 for look-ups, and there again once it has a kind.')
+
+def cells_without_a_kind(t):
+    """Filled cells of a facility that has no kind: counted by totals, 5 for look-ups, and there again once it has a kind."""
     t.open(3, 5)
     for f, s, h, stamp in ((0, 2, 0, 1), (1, 2, 1, 61), (2, 2, 0, 1), (2, 2, 1, 61)):
         t.write({cell(3, 5, f, s, h, 60): stamp, **_pairs_at(cell(3, 5, f, s, h, 60), [(3, 10 + f + h)])})
@@ -277,7 +307,9 @@ def make(t):
     t.call(standing(2, 2, 60, [(3, 12)], 0), 18)
     t.words()
 
-    t.list('words-past-n', 'A host\'s words past N, written by it between calls, are neither read nor written.')
+
+def words_past_n(t):
+    """A host's words past N, written by it between calls, are neither read nor written."""
     t.open(1, 1, past=50)
     t.call(capability(0, GENERATION))
     t.write({16224 + i: -1 for i in range(0, 50, 7)})

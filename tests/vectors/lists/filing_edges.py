@@ -1,5 +1,6 @@
 """Numbers 6 to 16 and 18 at their edges, on sound books: clock, notices, outages, capabilities, and what an offer may hold."""
-from .form import (GENERATION, LEAST, LIMITS, LOAD, MOST, capability, clock, look_up, notice, outage, standing, total, variation, with_bytes, with_words, withdrawal)
+from .form import (GENERATION, LEAST, LOAD, MOST, capability, clock, look_up, notice, outage, standing, total, variation, with_bytes, with_words,
+                   withdrawal)
 
 LARGE = (1, 99999, 99999, 99999, 99999, 99999, 99999, 9999, 9999, 1000, 1000, 1000, 1, 1, 1, 1, 1)
 
@@ -10,15 +11,17 @@ def _both(t, f, s, period, pairs, number, **more):
     t.call(variation(f, s, period, pairs, **more), number)
 
 
-def make(t):
-    t.list('clock-edges', 'The clock at the same minute, one less, one more, its last minute, past it, and words of either sign.')
+def clock_edges(t):
+    """The clock at the same minute, one less, one more, its last minute, past it, and words of either sign."""
     t.open(1, 1)
     for minute, number in ((0, 0), (-1, 6), (LEAST, 6), (1_000_000_001, 6), (MOST, 6), (1, 0), (0, 6), (1, 0), (100, 0), (99, 6), (100, 0), (999_999_999, 0),
                            (1_000_000_001, 6), (1_000_000_000, 0), (999_999_999, 6), (1_000_000_000, 0), (1_000_000_001, 6), (0, 6), (-1, 6)):
         t.call(clock(minute), number)
     t.words()
 
-    t.list('last-minute', 'A sound book at minute 1,000,000,000: the last periods of all are filed for, looked up and totalled.')
+
+def last_minute(t):
+    """A sound book at minute 1,000,000,000: the last periods of all are filed for, looked up and totalled."""
     t.open(2, 5, past=1)
     t.call(capability(0, GENERATION))
     t.call(capability(1, LOAD))
@@ -40,7 +43,9 @@ def make(t):
     t.call(total(1, 33_333_335), 0, 1, 6)
     t.words()
 
-    t.list('notice-edges', 'Notices by kind, first and last at 0 and 40,000,000 and past them, first above last; withdrawals of each reason.')
+
+def notice_edges(t):
+    """Notices by kind, first and last at 0 and 40,000,000 and past them, first above last; withdrawals of each reason."""
     t.open(1, 1)
     for first, last, number in ((0, 0, 0), (0, 40_000_000, 0), (40_000_000, 40_000_000, 0), (0, 40_000_001, 7), (40_000_001, 40_000_001, 7), (-1, 0, 7),
                                 (-1, -1, 7), (LEAST, MOST, 7), (0, MOST, 7), (LEAST, 0, 7), (1, 0, 7), (5, 4, 7), (5, 5, 0), (5, 6, 0)):
@@ -57,7 +62,9 @@ def make(t):
     t.call(withdrawal(5))
     t.words()
 
-    t.list('outage-edges', 'Outages with the minute at 0, now and past it, and the count at 0, 1, 3, 4, 48 and 49, by kind; each accepted one replaces the last.')
+
+def outage_edges(t):
+    """Outages with the minute at 0, now and past it, and the count at 0, 1, 3, 4, 48 and 49, by kind; each accepted one replaces the last."""
     t.open(2, 1)
     t.call(capability(0, GENERATION))
     t.call(capability(1, LOAD))
@@ -70,7 +77,9 @@ def make(t):
             t.call(outage(f, minute, count), 0 if 0 <= minute <= 3000 and 1 <= count <= most else 7)
         t.words()
 
-    t.list('capability-words', 'Each of W1 to W16 below its range, at both ends and past it.')
+
+def capability_words(t):
+    """Each of W1 to W16 below its range, at both ends and past it."""
     t.open(1, 5)
     for i in range(1, 17):
         most = 99999 if i <= 6 else 9999 if i <= 8 else 1000 if i <= 11 else 1
@@ -80,7 +89,9 @@ def make(t):
     t.call(capability(0, [1] + [0] * 16))
     t.words()
 
-    t.list('capability-kinds', 'Kinds other than 1 and 2, another kind than the held one, and the marks that a load may not set.')
+
+def capability_kinds(t):
+    """Kinds other than 1 and 2, another kind than the held one, and the marks that a load may not set."""
     t.open(3, 5)
     for kind in (0, 3, 4, -1, 257, 258, LEAST, MOST):
         t.call(capability(0, with_words(GENERATION, {0: kind})), 8)
@@ -97,7 +108,9 @@ def make(t):
     t.call(capability(2, with_words(GENERATION, {12: 0, 13: 0, 14: 0, 15: 0, 16: 0})))
     t.words()
 
-    t.list('marks-by-service', 'Each service with its mark alone set: the others draw 9, ahead of 10; a look-up and a total ask for no mark.')
+
+def marks_by_service(t):
+    """Each service with its mark alone set: the others draw 9, ahead of 10; a look-up and a total ask for no mark."""
     t.open(2, 5)
     for s in range(5):
         t.call(capability(0, with_words(GENERATION, {12 + k: int(k == s) for k in range(5)})))
@@ -113,7 +126,9 @@ def make(t):
         _both(t, 1, s, 60, [(1, 2)], number)
     t.words()
 
-    t.list('slots-and-periods', 'Slots at 0, 335, -1 and 336; periods begun, at the horizon and past it, on the first and the last minute of a day.')
+
+def slots_and_periods(t):
+    """Slots at 0, 335, -1 and 336; periods begun, at the horizon and past it, on the first and the last minute of a day."""
     t.open(1, 1)
     t.call(capability(0, GENERATION))
     for slot, number in ((0, 0), (335, 0), (-1, 10), (336, 10), (LEAST, 10), (MOST, 10)):
@@ -133,7 +148,9 @@ def make(t):
         t.call(variation(0, 0, period, [(1, 3)]), 10)
     t.words()
 
-    t.list('reason-byte', 'An open variation\'s reason at 0 to 6 passes, 7 and above draws 11; a standing offer has none: any draws 4.')
+
+def reason_byte(t):
+    """An open variation's reason at 0 to 6 passes, 7 and above draws 11; a standing offer has none: any draws 4."""
     t.open(1, 5)
     t.call(capability(0, GENERATION))
     for reason in (0, 1, 2, 3, 4, 5, 6, 7, 8, 127, 128, 255):
@@ -142,7 +159,9 @@ def make(t):
         t.call(variation(0, 4, 60, [(1, 2)], reason), 0 if reason <= 6 else 11)
     t.words()
 
-    t.list('prices-at-the-limits', 'Prices at each service\'s lowest and highest and one past, in the first and the last pair; limits are the opening\'s.')
+
+def prices_at_the_limits(t):
+    """Prices at each service's lowest and highest and one past, in the first and the last pair; limits are the opening's."""
     t.open(1, 5, (-7, 20, 21, 22, 23, 24))
     t.call(capability(0, LARGE))
     for s in range(5):
@@ -154,7 +173,9 @@ def make(t):
             t.call(variation(0, s, 80 + i, {last: (price, 1)}, **more), number)
     t.words()
 
-    t.list('limits-all-zero', 'Every limit 0: an offer can only be at price 0.')
+
+def limits_all_zero(t):
+    """Every limit 0: an offer can only be at price 0."""
     t.open(1, 5, (0,) * 6)
     t.call(capability(0, LARGE))
     for s in range(5):
@@ -166,7 +187,9 @@ def make(t):
         _both(t, 0, s, 61, [(0, 0)], 0, **more)
     t.words()
 
-    t.list('quantities-at-the-edge', 'Quantities 0, 1, 99,999, 100,000 and below 0, in the first and the last place; a blank with a price past the limits is 11, not 12.')
+
+def quantities_at_the_edge(t):
+    """Quantities 0, 1, 99,999, 100,000 and below 0, in the first and the last place; a blank with a price past the limits is 11, not 12."""
     t.open(1, 5)
     t.call(capability(0, LARGE))
     for s, pairs in ((0, 10), (1, 5), (4, 5)):
@@ -181,7 +204,9 @@ def make(t):
         t.call(variation(0, s, 61, [(5, MOST)], **more), 11)
     t.words()
 
-    t.list('prices-rise', 'Rising, equal and falling prices with blanks between them, at the start and at the end.')
+
+def prices_rise(t):
+    """Rising, equal and falling prices with blanks between them, at the start and at the end."""
     t.open(1, 5)
     t.call(capability(0, LARGE))
     slot = 60
@@ -195,7 +220,9 @@ def make(t):
     t.call(look_up(0, 0, 60), 0, 2, 4)
     t.words()
 
-    t.list('ramps', 'Energy ramps at 0, their maximum and one past, up and down apart, for maxima 0, 40, 50 and 9,999.')
+
+def ramps(t):
+    """Energy ramps at 0, their maximum and one past, up and down apart, for maxima 0, 40, 50 and 9,999."""
     t.open(1, 1)
     slot = 60
     for up_most, down_most in ((50, 40), (0, 0), (9999, 0), (0, 9999)):
@@ -206,7 +233,9 @@ def make(t):
             slot += 1
     t.words()
 
-    t.list('totals-at-the-maxima', 'The total at generation and combined maximum, at each reserve maximum and at regulation\'s, and one past.')
+
+def totals_at_the_maxima(t):
+    """The total at generation and combined maximum, at each reserve maximum and at regulation's, and one past."""
     t.open(2, 5)
     slot = 60
     for one, two in ((1300, 800), (800, 1300), (800, 800), (0, 800), (800, 0)):
@@ -231,40 +260,44 @@ def make(t):
     _both(t, 0, 0, slot + 6, [(i, 99999) for i in range(10)], 16)
     t.words()
 
-    t.list('energy-offer-mended', 'An energy offer with everything wrong, mended one thing at a time: the numbers rise from 2 to 0, standing offer and variation.')
-    for call in (3, 4):
+
+def energy_offer_mended(t):
+    """An energy offer with everything wrong, mended one thing at a time: the numbers rise from 2 to 0, standing offer and variation."""
+    worst, fallen, high, good = [(450001, 801), (7, 0), (5, 4)], [(6, 801), None, (5, 4)], [(4, 801), None, (5, 4)], [(4, 796), None, (5, 4)]
+    for offer in (standing, variation):
+        reason = {12: 7} if offer is variation else {}
         t.open(1, 1)
         t.call(clock(30 * 60 - 64))
-        make_it = (lambda pairs, ramps=(51, 0), slot=-1: standing(0, 0, slot, pairs, ramps=ramps)) if call == 3 else (
-            lambda pairs, ramps=(51, 0), slot=-1, reason=7: variation(0, 0, slot, pairs, reason, ramps=ramps))
-        worst = [(450001, 801), (7, 0), (5, 4)]
-        t.call(with_bytes(make_it(worst), {6: 1, 13: 1, 0: 0}), 2)
-        t.call(with_bytes(make_it(worst), {6: 1, 13: 1}), 3)
-        t.call(with_bytes(make_it(worst), {13: 1}), 4)
-        t.call(make_it(worst), 5)
+        r = with_bytes(offer(0, 0, -1, worst, ramps=(51, 0)), reason)
+        t.call(with_bytes(r, {0: 0, 6: 1, 13: 1}), 2)
+        t.call(with_bytes(r, {6: 1, 13: 1}), 3)
+        t.call(with_bytes(r, {13: 1}), 4)
+        t.call(r, 5)
         t.call(capability(0, with_words(GENERATION, {12: 0})))
-        t.call(make_it(worst), 9)
+        t.call(r, 9)
         t.call(capability(0, GENERATION))
-        t.call(make_it(worst), 10)
-        t.call(make_it(worst, slot=60), 11)
-        t.call(make_it([(4, 801), (7, 0), (5, 4)], slot=60) if call == 3 else make_it([(4, 801), (7, 0), (5, 4)], slot=60, reason=0), 12)
-        more = {} if call == 3 else {'reason': 0}
-        t.call(make_it([(6, 801), (0, 0), (5, 4)], slot=60, **more), 13)
-        t.call(make_it([(4, 801), (0, 0), (5, 4)], slot=60, **more), 14)
-        t.call(make_it([(4, 801), (0, 0), (5, 4)], (50, 41), 60, **more), 14)
-        t.call(make_it([(4, 801), (0, 0), (5, 4)], (50, 40), 60, **more), 16)
-        if call == 3:
-            t.call(make_it([(4, 796), (0, 0), (5, 4)], (50, 40), 60))
-            t.call(make_it([(4, 796), (0, 0), (5, 4)], (50, 40), 60), 17)
-            t.call(clock(30 * 60))
-            t.call(make_it([(4, 796), (0, 0), (5, 4)], (50, 40), 60), 18)
-        else:
-            t.call(make_it([(4, 796), (0, 0), (5, 4)], (50, 40), 60, reason=0), 17)
-            t.call(make_it([(4, 796), (0, 0), (5, 4)], (50, 40), 60, reason=1))
+        t.call(r, 10)
+        t.call(with_bytes(offer(0, 0, 60, worst, ramps=(51, 0)), reason), 11)
+        t.call(with_bytes(offer(0, 0, 60, [(4, 801), (7, 0), (5, 4)], ramps=(51, 0)), reason), 11 if reason else 12)
+        t.call(offer(0, 0, 60, worst, ramps=(51, 0)), 11)
+        t.call(offer(0, 0, 60, [(6, 801), (7, 0), (5, 4)], ramps=(51, 0)), 12)
+        t.call(offer(0, 0, 60, fallen, ramps=(51, 0)), 13)
+        t.call(offer(0, 0, 60, high, ramps=(51, 0)), 14)
+        t.call(offer(0, 0, 60, high, ramps=(50, 41)), 14)
+        t.call(offer(0, 0, 60, high, ramps=(50, 40)), 16)
+        t.call(offer(0, 0, 60, good, ramps=(50, 40)), 17 if offer is variation else 0)
+        if offer is variation:
+            t.call(variation(0, 0, 60, good, 1, ramps=(50, 40)))
             t.call(look_up(0, 0, 60), 0, 2, 800)
+        else:
+            t.call(standing(0, 0, 60, good, ramps=(50, 40)), 17)
+            t.call(clock(30 * 60))
+            t.call(standing(0, 0, 60, good, ramps=(50, 40)), 18)
         t.words()
 
-    t.list('duplicates', 'A standing offer equal to the held one but for one field is accepted; equal in all it draws 18; blanks elsewhere make it another.')
+
+def duplicates(t):
+    """A standing offer equal to the held one but for one field is accepted; equal in all it draws 18; blanks elsewhere make it another."""
     t.open(2, 5)
     for f in (0, 1):
         t.call(capability(f, GENERATION))

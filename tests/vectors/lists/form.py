@@ -104,25 +104,24 @@ def one_of_each(period=100, slot=100):
 
 class Script:
     def __init__(self):
-        self.lines = []     # questions
-        self.expected = []  # for each line: the start and the end of its answer, as texts, or None where it is a comment
         self.ids = []
+        self.lines = []   # questions
+        self.stated = []  # for each line a pattern of its answer; None for a comment
 
     def list(self, identity, sentence):
-        assert ' ' not in identity and ':' not in identity and sentence.endswith('.') and sentence.isascii()
+        assert ' ' not in identity and sentence.endswith('.') and sentence.isascii()
         self.ids.append(identity)
-        self.lines.append(f'# {identity}: {sentence}')
-        self.expected.append(None)
+        self._line(f'# {identity}: {sentence}', None)
 
-    def _line(self, text, start, end=''):
+    def _line(self, text, stated):
         self.lines.append(text)
-        self.expected.append((start, end))
+        self.stated.append(stated)
 
     def open(self, F, S, limits=LIMITS, past=0, number=0):
         self._line(f'open 0 {F} {S} {" ".join(map(str, limits))} {past} =', str(number))
 
     def call(self, r, number=0, first=0, sum=0):
-        self._line(f'call {r.hex() or "-"} =', f'{number} {first} ', f' {sum}')
+        self._line(f'call {r.hex() or "-"} =', rf'{number} {first}( -?\d+){{23}} {sum}')
 
     def test(self, r, F, S, number):
         self._line(f'test {r.hex() or "-"} {F} {S} =', str(number))
@@ -131,4 +130,4 @@ class Script:
         self._line('write ' + ' '.join(f'{i} {value}' for i, value in words.items()) + ' =', '')
 
     def words(self):
-        self._line('words =', '')
+        self._line('words =', r'\d+')

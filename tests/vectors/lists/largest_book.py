@@ -1,9 +1,9 @@
 """F 64: the largest books, at their first and last facility, service and slot."""
-from .form import GENERATION, LOAD, block, capability, cell, clock, look_up, notice, outage, standing, total, variation, with_words, words_needed
+from .form import GENERATION, LOAD, block, capability, cell, clock, look_up, outage, standing, total, variation
 
 
-def make(t):
-    t.list('largest-book', 'F 64, S 5: facilities 0 and 63, every service, slots 0 and 335, and facility 64, which is none; words past N stay.')
+def largest_book(t):
+    """F 64, S 5: facilities 0 and 63, every service, slots 0 and 335, and facility 64, which is none; words past N stay."""
     t.open(64, 5, past=3)
     t.call(look_up(63, 4, 335), 5)
     t.call(total(4, 335))
@@ -45,12 +45,16 @@ def make(t):
     t.call(total(4, 336), 0, 2, 14 + 77)
     t.words()
 
-    t.list('largest-book-one-too-few', 'F 64, S 5 over one word fewer than it needs: refused, the words stay.')
+
+def largest_book_one_too_few(t):
+    """F 64, S 5 over one word fewer than it needs: refused, the words stay."""
     t.open(64, 5, past=-1, number=20)
     t.call(total(0, 1), 1)
     t.words()
 
-    t.list('sixty-four-for-energy', 'F 64, S 1, an offer in force for every facility: the total of all, and of all but those whose variation has gone by.')
+
+def sixty_four_for_energy(t):
+    """F 64, S 1, an offer in force for every facility: the total of all, and of all but those whose variation has gone by."""
     t.open(64, 1)
     for f in range(64):
         t.call(capability(f, GENERATION))

@@ -1,6 +1,5 @@
 """Number 5 for each call that draws it (3, 4, 5, 8), before any capability and from kinds that only a damaged book holds."""
-from .form import (GENERATION, LEAST, LOAD, MOST, block, capability, cell, clock, look_up, notice, outage, standing, total, variation, with_bytes, with_words,
-                   withdrawal)
+from .form import GENERATION, LEAST, LOAD, MOST, block, capability, clock, look_up, outage, standing, total, variation, with_bytes, with_words
 
 
 def _four(t, f, number=5, s=0):
@@ -10,8 +9,8 @@ def _four(t, f, number=5, s=0):
     t.call(look_up(f, s, 100), number)
 
 
-def make(t):
-    t.list('none-yet', 'Before any capability, calls 3, 4, 5 and 8 draw 5 for each facility and service; a total draws none.')
+def none_yet(t):
+    """Before any capability, calls 3, 4, 5 and 8 draw 5 for each facility and service; a total draws none."""
     t.open(3, 5)
     for f in range(3):
         for s in range(5):
@@ -20,7 +19,9 @@ def make(t):
         t.call(total(s, 100))
     t.words()
 
-    t.list('five-ahead-of-the-rest', 'Without a kind, calls that would draw 7, 10, 11, 12, 13, 14, 15, 16, 17 or 19 draw 5.')
+
+def five_ahead_of_the_rest(t):
+    """Without a kind, calls that would draw 7, 10, 11, 12, 13, 14, 15, 16, 17 or 19 draw 5."""
     t.open(1, 5)
     t.call(clock(50))
     for r in (outage(0, -1, 1), outage(0, 51, 1), outage(0, 0, 0), outage(0, 0, 49), outage(0, MOST, MOST), outage(0, LEAST, LEAST), standing(0, 0, 336),
@@ -30,7 +31,9 @@ def make(t):
         t.call(r, 5)
     t.words()
 
-    t.list('lower-numbers-ahead-of-five', 'Without a kind, 2, 3 and 4 still come first.')
+
+def lower_numbers_ahead_of_five(t):
+    """Without a kind, 2, 3 and 4 still come first."""
     t.open(2, 5)
     for r in (standing(1, 0, 4), variation(1, 1, 4), outage(1, 0, 1), look_up(1, 2, 4)):
         t.call(r[:111], 2)
@@ -43,7 +46,9 @@ def make(t):
     t.call(with_bytes(outage(1, 0, 1), {7: 1}), 4)
     t.words()
 
-    t.list('outage-without-a-kind', 'An outage draws 5 before the facility\'s capability and after it what its minute and count draw; another facility\'s capability does nothing.')
+
+def outage_without_a_kind(t):
+    """An outage draws 5 before the facility's capability and after it what its minute and count draw; another facility's capability does nothing."""
     t.open(3, 1)
     t.call(clock(90))
     for minute, count in ((0, 1), (90, 3), (90, 48), (91, 1), (-1, 1), (0, 0)):
@@ -59,7 +64,9 @@ def make(t):
         t.call(outage(f, minute, count), number)
     t.words()
 
-    t.list('capability-refused-leaves-no-kind', 'A capability that draws 8 gives no kind: calls after it still draw 5.')
+
+def capability_refused_leaves_no_kind(t):
+    """A capability that draws 8 gives no kind: calls after it still draw 5."""
     t.open(1, 5)
     for changes in ({0: 0}, {0: 3}, {0: -1}, {1: 100_000}, {16: 2}):
         t.call(capability(0, with_words(GENERATION, changes)), 8)
@@ -70,7 +77,9 @@ def make(t):
     t.call(look_up(0, 0, 100), 19)
     t.words()
 
-    t.list('kinds-only-a-damaged-book-holds', 'Kinds 0, 3, -1, 2^31 - 1 and others draw 5 from each of the four calls; a total still counts the offers.')
+
+def kinds_only_a_damaged_book_holds(t):
+    """Kinds 0, 3, -1, 2^31 - 1 and others draw 5 from each of the four calls; a total still counts the offers."""
     t.open(2, 5)
     t.call(capability(0, GENERATION))
     t.call(capability(1, LOAD))
@@ -90,7 +99,9 @@ def make(t):
         t.call(look_up(0, 0, 100), 0, 1, 70)
     t.words()
 
-    t.list('a-damaged-kind-is-not-held', 'Over a kind that is neither 1 nor 2, a capability of either kind is accepted, and then held.')
+
+def a_damaged_kind_is_not_held(t):
+    """Over a kind that is neither 1 nor 2, a capability of either kind is accepted, and then held."""
     t.open(2, 5)
     t.call(capability(0, GENERATION))
     t.call(capability(0, LOAD), 8)
@@ -102,7 +113,9 @@ def make(t):
         t.call(look_up(0, 1, 100), 19)
         t.words()
 
-    t.list('kind-turned-by-the-host', 'Generation made load in the words: outages of 48, reason 6 and no proportion test, on the marks that are there.')
+
+def kind_turned_by_the_host(t):
+    """Generation made load in the words: outages of 48, reason 6 and no proportion test, on the marks that are there."""
     t.open(1, 5)
     t.call(capability(0, GENERATION))
     t.call(clock(100))
@@ -122,7 +135,9 @@ def make(t):
     t.call(look_up(0, 0, 5), 0, 2, 6)
     t.words()
 
-    t.list('one-facility-of-many', 'In a book of seven only facility 3 has a kind: its neighbours draw 5.')
+
+def one_facility_of_many(t):
+    """In a book of seven only facility 3 has a kind: its neighbours draw 5."""
     t.open(7, 1)
     t.call(capability(3, GENERATION))
     for f in range(7):

@@ -1,31 +1,43 @@
 """Number 15, the reserve proportion: 0, 1, its maximum and one more, by class and kind, for calls 3 and 4."""
-from .form import GENERATION, LEAST, LOAD, MOST, block, capability, clock, look_up, notice, standing, total, variation, with_bytes, with_words
+from .form import GENERATION, LEAST, LOAD, MOST, block, capability, clock, look_up, notice, standing, total, variation, with_words
 
 TRIED = (0, 1, 2, 500, 501, 1000, 1001, 256, 65535)
 
 
-def make(t):
-    for s, what in ((1, 'primary'), (2, 'secondary'), (3, 'contingency')):
-        t.list(f'generation-proportion-{what}', f'Generation, {what} reserve: the class\'s own maximum decides, at 1, 500 and 1,000, and at 0 none passes.')
-        t.open(1, 5)
-        slot = 48
-        for maximum in (0, 1, 500, 1000):
-            others = {i: 1000 if maximum < 1000 else 0 for i in (9, 10, 11)}
-            t.call(capability(0, with_words(GENERATION, {**others, 8 + s: maximum})))
-            for proportion in TRIED:
-                number = 0 if 1 <= proportion <= maximum else 15
-                t.call(standing(0, s, slot, [(1, 5)], proportion), number)
-                slot += 1
-        t.call(look_up(0, s, slot - 4), 0, 1, 5)
-        t.call(look_up(0, s, slot - 3), 19)
-        period = 48
-        for proportion in (0, 1, 1000, 1001):
-            number = 0 if 1 <= proportion <= 1000 else 15
-            t.call(variation(0, s, period, [(1, 6)], 0, proportion), number)
-            period += 1
-        t.words()
+def _generation(t, s):
+    """The class's own maximum decides; the other classes' are 1,000 where it is lower, else 0."""
+    t.open(1, 5)
+    slot = 48
+    for maximum in (0, 1, 500, 1000):
+        others = {i: 1000 if maximum < 1000 else 0 for i in (9, 10, 11)}
+        t.call(capability(0, with_words(GENERATION, {**others, 8 + s: maximum})))
+        for proportion in TRIED:
+            t.call(standing(0, s, slot, [(1, 5)], proportion), 0 if 1 <= proportion <= maximum else 15)
+            slot += 1
+    t.call(look_up(0, s, slot - 4), 0, 1, 5)
+    t.call(look_up(0, s, slot - 3), 19)
+    for period, proportion in ((48, 0), (49, 1), (50, 1000), (51, 1001)):
+        t.call(variation(0, s, period, [(1, 6)], 0, proportion), 0 if 1 <= proportion <= 1000 else 15)
+    t.words()
 
-    t.list('load-proportion', 'A load\'s proportion isn\'t tested: 0, 1, past every maximum and 65,535 are held and shown as they came.')
+
+def generation_proportion_primary(t):
+    """Generation, primary reserve: the class's own maximum decides, at 1, 500 and 1,000, and at 0 none passes."""
+    _generation(t, 1)
+
+
+def generation_proportion_secondary(t):
+    """Generation, secondary reserve: the class's own maximum decides, at 1, 500 and 1,000, and at 0 none passes."""
+    _generation(t, 2)
+
+
+def generation_proportion_contingency(t):
+    """Generation, contingency reserve: the class's own maximum decides, at 1, 500 and 1,000, and at 0 none passes."""
+    _generation(t, 3)
+
+
+def load_proportion(t):
+    """A load's proportion isn't tested: 0, 1, past every maximum and 65,535 are held and shown as they came."""
     t.open(1, 5)
     for maximum in (0, 500):
         t.call(capability(0, with_words(LOAD, {9: maximum, 10: maximum, 11: maximum})))
@@ -36,7 +48,9 @@ def make(t):
                 t.call(look_up(0, s, period), 0, 1 if i % 2 else 2, 5)
     t.words()
 
-    t.list('proportion-in-a-duplicate', 'Standing offers that differ in the proportion alone: not equal, for generation and load.')
+
+def proportion_in_a_duplicate(t):
+    """Standing offers that differ in the proportion alone: not equal, for generation and load."""
     t.open(2, 5)
     t.call(capability(0, GENERATION))
     t.call(capability(1, LOAD))
@@ -49,7 +63,9 @@ def make(t):
         t.call(standing(f, 1, 60, [(1, 5)], 0), 15 if f == 0 else 18)
     t.words()
 
-    t.list('blank-offer-needs-a-proportion', 'An all-blank reserve offer of generation with proportion 0 draws 15; with 1 it passes and is in force with sum 0.')
+
+def blank_offer_needs_a_proportion(t):
+    """An all-blank reserve offer of generation with proportion 0 draws 15; with 1 it passes and is in force with sum 0."""
     t.open(1, 5)
     t.call(capability(0, GENERATION))
     for s in (1, 2, 3):
@@ -60,7 +76,9 @@ def make(t):
         t.call(total(s, 60), 0, 1, 0)
     t.words()
 
-    t.list('proportion-among-the-rest', 'A reserve offer with everything wrong, mended one thing at a time: the numbers rise past 15.')
+
+def proportion_among_the_rest(t):
+    """A reserve offer with everything wrong, mended one thing at a time: the numbers rise past 15."""
     t.open(1, 5)
     t.call(capability(0, with_words(GENERATION, {13: 0})))
     t.call(clock(30 * 60 - 64))
@@ -86,7 +104,9 @@ def make(t):
     t.call(standing(0, 1, 60, [(4, 299)], 0), 15)
     t.words()
 
-    t.list('proportion-where-unused', 'Energy and regulation use no proportion: either byte set draws 4; reserve uses no ramp and five pairs.')
+
+def proportion_where_unused(t):
+    """Energy and regulation use no proportion: either byte set draws 4; reserve uses no ramp and five pairs."""
     t.open(2, 5)
     t.call(capability(0, GENERATION))
     for s in (0, 4):
@@ -103,7 +123,9 @@ def make(t):
         t.call(standing(0, s, 61, {4: (1, 5)}, proportion))
     t.words()
 
-    t.list('maximum-lowered', 'A capability that lowers the maximum leaves held offers in force; the same filed again draws 15.')
+
+def maximum_lowered(t):
+    """A capability that lowers the maximum leaves held offers in force; the same filed again draws 15."""
     t.open(1, 5)
     t.call(capability(0, GENERATION))
     t.call(standing(0, 2, 60, [(1, 5)], 600))
@@ -119,7 +141,9 @@ def make(t):
     t.call(look_up(0, 2, 60), 0, 1, 5)
     t.words()
 
-    t.list('maximum-damaged', 'Maxima that only a damaged book holds: below 0 nothing passes; past 65,535 all but 0 does.')
+
+def maximum_damaged(t):
+    """Maxima that only a damaged book holds: below 0 nothing passes; past 65,535 all but 0 does."""
     t.open(1, 5)
     t.call(capability(0, GENERATION))
     slot = 60
@@ -131,7 +155,9 @@ def make(t):
                 slot = 60 + (slot - 59) % 200
     t.words()
 
-    t.list('proportion-inside-the-gate', 'The gate compares totals and prices: a variation inside it may change the proportion alone, with a reason.')
+
+def proportion_inside_the_gate(t):
+    """The gate compares totals and prices: a variation inside it may change the proportion alone, with a reason."""
     t.open(2, 5)
     t.call(capability(0, GENERATION))
     t.call(capability(1, LOAD))

@@ -1,5 +1,5 @@
 """Sound books over time: the paper's cases and worked run, weeks, gate closure and its reasons, notices, totals, nothing in force."""
-from .form import (GENERATION, LEAST, LIMITS, LOAD, MOST, capability, clock, look_up, notice, outage, standing, total, variation, with_words, withdrawal)
+from .form import GENERATION, LOAD, capability, clock, look_up, notice, outage, standing, total, variation, with_words, withdrawal
 
 PROGRAM_LIMITS = (-450000, 450000, 450000, 450000, 450000, 450000)
 
@@ -8,8 +8,30 @@ def _filler(s):
     return 1 if 1 <= s <= 3 else 0
 
 
-def make(t):
-    t.list('worked-run', 'Document 01\'s nine records in the program\'s book, and the words after each.')
+# Offers filed over 50.0 MW at 40.00 and 20.0 at 50.00, with the number that each draws
+TRIES = (([(4000, 500), (5000, 200)], 0), ([(4000, 500), (5000, 201)], 0), ([(4000, 499)], 0), ([(4000, 500)], 0), ([(4000, 499), (5000, 201)], 17),
+             ([(4000, 501), (5000, 199)], 17), ([(4000, 501)], 17), ([(4000, 500), (5001, 200)], 17), ([(4000, 500), (4500, 1)], 17), ([], 0), ([(4000, 1)], 0),
+             ([(3999, 1)], 17), ([(4000, 500), (5000, 200), (6000, 100)], 0), ([None, (4000, 500), None, (5000, 200)], 0), ({9: (4000, 500)}, 0),
+             ([(3999, 250), (4000, 250)], 17), ([(4000, 250), (4001, 250)], 17), ([(4000, 500), (5000, 1), (5001, 1)], 17), ({8: (4000, 500), 9: (5000, 300)}, 0),
+             ([(4000, 450), (5000, 300)], 17))
+
+
+def _over(t, held):
+    """Each of TRIES by a facility of its own that holds `held`."""
+    t.open(len(TRIES), 1)
+    for f in range(len(TRIES)):
+        t.call(capability(f, GENERATION))
+        t.call(standing(f, 0, 4, held))
+    t.call(clock(60))
+    for f, (pairs, number) in enumerate(TRIES):
+        t.call(variation(f, 0, 4, pairs, 1), number)
+    accepted = [sum(p[1] for p in (pairs.values() if isinstance(pairs, dict) else pairs) if p) for pairs, number in TRIES if number == 0]
+    t.call(total(0, 4), 0, len(TRIES), sum(accepted) + 700 * (len(TRIES) - len(accepted)))
+    t.words()
+
+
+def worked_run(t):
+    """Document 01's nine records in the program's book, and the words after each."""
     t.open(1, 1, PROGRAM_LIMITS)
     for r, answer in ((capability(0, [1, 1300, 800] + [0] * 9 + [1]), ()), (standing(0, 0, 4, [(4000, 500), (5000, 200)]), ()), (look_up(0, 0, 4), (0, 1, 700)),
                       (variation(0, 0, 4, [(4000, 300)]), ()), (look_up(0, 0, 4), (0, 2, 300)), (total(0, 4), (0, 1, 300)), (look_up(0, 0, 340), (10,)),
@@ -17,25 +39,30 @@ def make(t):
         t.call(r, *answer)
         t.words()
 
-    t.list('papers-cases', 'Document 01\'s cases, each on a book of its own.')
 
-    def case(*calls, now=0):
-        t.open(1, 1, PROGRAM_LIMITS)
-        t.call(capability(0, with_words(GENERATION, {1: 1300, 2: 800})))
-        for r, number in calls:
-            t.call(r, number)
-        t.words()
-    case((standing(0, 0, 100, [(4000, 1300)]), 16), (standing(0, 0, 100, [(4000, 700)]), 0))
-    case((standing(0, 0, 100, [(5000, 100), (4000, 100)]), 13), (standing(0, 0, 100, [(4000, 100), (5000, 100)]), 0))
-    case((standing(0, 0, 100, [(10000, 500), (0, 0)]), 0), (standing(0, 0, 100, [(10000, 500), (5000, 0)]), 12), (standing(0, 0, 100, [(5000, 0)]), 12))
-    case((clock(55), 0), (variation(0, 0, 4, [(4000, 100)]), 0))
-    case((clock(56), 0), (variation(0, 0, 4, [(4000, 100)]), 17))
-    case((clock(120), 0), (variation(0, 0, 4, [(4000, 100)]), 10))
+def _case(t, *calls):
+    t.open(1, 1, PROGRAM_LIMITS)
+    t.call(capability(0, with_words(GENERATION, {1: 1300, 2: 800})))
+    for r, number in calls:
+        t.call(r, number)
+    t.words()
+
+
+def papers_cases(t):
+    """Document 01's cases, each on a book of its own."""
+    _case(t, (standing(0, 0, 100, [(4000, 1300)]), 16), (standing(0, 0, 100, [(4000, 700)]), 0))
+    _case(t, (standing(0, 0, 100, [(5000, 100), (4000, 100)]), 13), (standing(0, 0, 100, [(4000, 100), (5000, 100)]), 0))
+    _case(t, (standing(0, 0, 100, [(10000, 500), (0, 0)]), 0), (standing(0, 0, 100, [(10000, 500), (5000, 0)]), 12), (standing(0, 0, 100, [(5000, 0)]), 12))
+    _case(t, (clock(55), 0), (variation(0, 0, 4, [(4000, 100)]), 0))
+    _case(t, (clock(56), 0), (variation(0, 0, 4, [(4000, 100)]), 17))
+    _case(t, (clock(120), 0), (variation(0, 0, 4, [(4000, 100)]), 10))
     old = standing(0, 0, 4, [(4000, 500), (5000, 200)])
-    case((old, 0), (notice(4, 4, 4), 0), (clock(60), 0), (variation(0, 0, 4, [(4000, 500), (5000, 300)], 4), 0))
-    case((old, 0), (notice(4, 4, 4), 0), (clock(60), 0), (variation(0, 0, 4, [(4000, 450), (5000, 300)], 4), 17))
+    _case(t, (old, 0), (notice(4, 4, 4), 0), (clock(60), 0), (variation(0, 0, 4, [(4000, 500), (5000, 300)], 4), 0))
+    _case(t, (old, 0), (notice(4, 4, 4), 0), (clock(60), 0), (variation(0, 0, 4, [(4000, 450), (5000, 300)], 4), 17))
 
-    t.list('slot-a-week-later', 'A slot used again week after week: each variation answers for its own period alone, the standing offer for the others.')
+
+def slot_a_week_later(t):
+    """A slot used again week after week: each variation answers for its own period alone, the standing offer for the others."""
     t.open(1, 5, past=3)
     t.call(capability(0, GENERATION))
     for s in (0, 3):
@@ -58,7 +85,9 @@ def make(t):
             t.call(look_up(0, s, period + 336), 10)
         t.words()
 
-    t.list('slot-a-week-later-without-standing', 'The same with no standing offer: nothing in force until the week\'s own variation.')
+
+def slot_a_week_later_without_standing(t):
+    """A slot used again a week later with no standing offer: nothing in force until the week's own variation."""
     t.open(1, 1)
     t.call(capability(0, GENERATION))
     t.call(variation(0, 0, 335, [(1, 9)]))
@@ -75,7 +104,9 @@ def make(t):
     t.call(look_up(0, 0, 671), 0, 2, 8)
     t.words()
 
-    t.list('standing-and-variation-apart', 'A variation leaves the standing offer as it was, and a standing offer the variation; a first standing offer may come after one.')
+
+def standing_and_variation_apart(t):
+    """A variation leaves the standing offer as it was, and a standing offer the variation; a first standing offer may come after one."""
     t.open(2, 5)
     t.call(capability(0, GENERATION))
     t.call(variation(0, 0, 60, [(1, 5)]))
@@ -96,7 +127,9 @@ def make(t):
     t.call(look_up(0, 1, 60 + 336), 19)
     t.words()
 
-    t.list('gate-at-65-minutes', 'A variation with 66, 65, 64, 1 and no minutes to go, for each service of generation, without a reason and with reason 1.')
+
+def gate_at_65_minutes(t):
+    """A variation with 66, 65, 64, 1 and no minutes to go, for each service of generation, without a reason and with reason 1."""
     t.open(1, 5)
     t.call(capability(0, GENERATION))
     for left, number in ((66, 0), (65, 0), (64, 17), (36, 17), (30, 17), (1, 17), (0, 10)):
@@ -106,7 +139,9 @@ def make(t):
         t.call(variation(0, 0, 100, [(1, 1)], 1), 10 if left == 0 else 0)
     t.words()
 
-    t.list('standing-gate', 'A standing offer over a held one with 66 to 0 minutes to the slot\'s next period; 17 comes before 18, a first one always passes.')
+
+def standing_gate(t):
+    """A standing offer over a held one with 66 to 0 minutes to the slot's next period; 17 comes before 18, a first one always passes."""
     t.open(2, 5)
     t.call(capability(0, GENERATION))
     t.call(standing(0, 0, 100, [(1, 1)]))
@@ -123,7 +158,9 @@ def make(t):
     t.call(standing(0, 0, 100, [(1, 99)]))
     t.words()
 
-    t.list('standing-gate-over-the-week', 'Slots 0, 1 and 335 around the week\'s end: the next period not yet begun decides.')
+
+def standing_gate_over_the_week(t):
+    """Slots 0, 1 and 335 around the week's end: the next period not yet begun decides."""
     t.open(1, 1)
     t.call(capability(0, GENERATION))
     for slot in (0, 1, 2, 335):
@@ -139,7 +176,9 @@ def make(t):
             t.call(standing(0, 0, slot, [(1, now - 10_000)]), number)
     t.words()
 
-    t.list('variation-hides-the-held-one', 'A standing offer over a held one is gated even where a variation is in force; a slot with a variation alone counts as a first.')
+
+def variation_hides_the_held_one(t):
+    """A standing offer over a held one is gated even where a variation is in force; a slot with a variation alone counts as a first."""
     t.open(1, 1)
     t.call(capability(0, GENERATION))
     t.call(standing(0, 0, 100, [(1, 1)]))
@@ -151,7 +190,9 @@ def make(t):
     t.call(look_up(0, 0, 101), 0, 2, 2)
     t.words()
 
-    t.list('reasons-by-kind', 'Each reason inside the gate, by kind and service, with every window over the period: more, less and as much as the held offer.')
+
+def reasons_by_kind(t):
+    """Each reason inside the gate, by kind and service, with every window over the period: more, less and as much as the held offer."""
     t.open(2, 5)
     t.call(capability(0, with_words(GENERATION, {6: 300})))
     t.call(capability(1, LOAD))
@@ -171,7 +212,9 @@ def make(t):
                     t.call(variation(f, s, period, [(1, quantity)], reason, _filler(s)), 0 if holds else 17)
     t.words()
 
-    t.list('windows-at-their-edges', 'Notices and outages that end just before the period, start just after it or hold it alone.')
+
+def windows_at_their_edges(t):
+    """Notices and outages that end just before the period, start just after it or hold it alone."""
     t.open(2, 5)
     t.call(capability(0, GENERATION))
     t.call(capability(1, LOAD))
@@ -193,7 +236,9 @@ def make(t):
             t.call(variation(f, s, 100, [(1, 10)], reason, 1), number)
     t.words()
 
-    t.list('no-old-offer-inside-the-gate', 'Nothing in force counts as a total of 0: reason 3 never holds, 4 and 5 for any total above 0.')
+
+def no_old_offer_inside_the_gate(t):
+    """Nothing in force counts as a total of 0: reason 3 never holds, 4 and 5 for any total above 0."""
     t.open(3, 5)
     for f in range(3):
         t.call(capability(f, GENERATION))
@@ -215,28 +260,19 @@ def make(t):
     t.call(total(0, 1), 0, 3, 4)
     t.words()
 
-    for name, sentence, held in (
-            ('prices-tenth-by-tenth', 'Inside the gate with reason 1, each of many offers over 50.0 MW at 40.00 and 20.0 at 50.00: prices are compared tenth by tenth.',
-             [(4000, 500), (5000, 200)]),
-            ('prices-tenth-by-tenth-over-blanks', 'The same over a held offer whose pairs stand third and eighth.', {2: (4000, 500), 7: (5000, 200)})):
-        t.list(name, sentence)
-        tries = (([(4000, 500), (5000, 200)], 0), ([(4000, 500), (5000, 201)], 0), ([(4000, 499)], 0), ([(4000, 500)], 0), ([(4000, 499), (5000, 201)], 17),
-                 ([(4000, 501), (5000, 199)], 17), ([(4000, 501)], 17), ([(4000, 500), (5001, 200)], 17), ([(4000, 500), (4500, 1)], 17), ([], 0), ([(4000, 1)], 0),
-                 ([(3999, 1)], 17), ([(4000, 500), (5000, 200), (6000, 100)], 0), ([None, (4000, 500), None, (5000, 200)], 0), ({9: (4000, 500)}, 0),
-                 ([(3999, 250), (4000, 250)], 17), ([(4000, 250), (4001, 250)], 17), ([(4000, 500), (5000, 1), (5001, 1)], 17), ({8: (4000, 500), 9: (5000, 300)}, 0),
-                 ([(4000, 450), (5000, 300)], 17))
-        t.open(len(tries), 1)
-        for f in range(len(tries)):
-            t.call(capability(f, GENERATION))
-            t.call(standing(f, 0, 4, held))
-        t.call(clock(60))
-        for f, (pairs, number) in enumerate(tries):
-            t.call(variation(f, 0, 4, pairs, 1), number)
-        accepted = [sum(p[1] for p in (pairs.values() if isinstance(pairs, dict) else pairs) if p) for pairs, number in tries if number == 0]
-        t.call(total(0, 4), 0, len(tries), sum(accepted) + 700 * (len(tries) - len(accepted)))
-        t.words()
 
-    t.list('an-earlier-variation-is-the-old', 'Inside the gate the old offer is the variation in force, not the standing offer behind it.')
+def prices_tenth_by_tenth(t):
+    """Inside the gate with reason 1, each of many offers over 50.0 MW at 40.00 and 20.0 at 50.00: prices are compared tenth by tenth."""
+    _over(t, [(4000, 500), (5000, 200)])
+
+
+def prices_tenth_by_tenth_over_blanks(t):
+    """Prices compared tenth by tenth over a held offer whose pairs stand third and eighth, blanks around them."""
+    _over(t, {2: (4000, 500), 7: (5000, 200)})
+
+
+def an_earlier_variation_is_the_old(t):
+    """Inside the gate the old offer is the variation in force, not the standing offer behind it."""
     t.open(1, 1)
     t.call(capability(0, GENERATION))
     t.call(standing(0, 0, 100, [(1, 50)]))
@@ -252,7 +288,9 @@ def make(t):
     t.call(look_up(0, 0, 100), 0, 2, 1)
     t.words()
 
-    t.list('variation-after-a-withdrawal', 'Notice 5 withdrawn: a variation by reason 5 draws 17; notices 3 and 4 stand; notice 5 again lets it pass.')
+
+def variation_after_a_withdrawal(t):
+    """Notice 5 withdrawn: a variation by reason 5 draws 17; notices 3 and 4 stand; notice 5 again lets it pass."""
     t.open(1, 5)
     t.call(capability(0, GENERATION))
     t.call(clock(30 * 99))
@@ -278,7 +316,9 @@ def make(t):
     t.call(variation(0, 4, 100, [(1, 70)], 5), 17)
     t.words()
 
-    t.list('notice-replaced', 'A notice of a kind replaces that kind\'s last one, wholly, and no other kind\'s.')
+
+def notice_replaced(t):
+    """A notice of a kind replaces that kind's last one, wholly, and no other kind's."""
     t.open(1, 1)
     t.call(capability(0, GENERATION))
     t.call(clock(30 * 99))
@@ -298,7 +338,9 @@ def make(t):
     t.call(variation(0, 0, 101, [(1, 70)], 4))
     t.words()
 
-    t.list('outage-kept-over-a-capability', 'A capability leaves the outage window as it was, and offers in force where a mark is cleared or a maximum lowered.')
+
+def outage_kept_over_a_capability(t):
+    """A capability leaves the outage window as it was, and offers in force where a mark is cleared or a maximum lowered."""
     t.open(1, 5)
     t.call(capability(0, GENERATION))
     t.call(clock(30 * 99))
@@ -315,7 +357,9 @@ def make(t):
     t.call(variation(0, 0, 100, [(1, 10)], 2))
     t.words()
 
-    t.list('totals-by-facility', 'Totals over facilities with a variation, a standing offer, a blank one, none, and no kind.')
+
+def totals_by_facility(t):
+    """Totals over facilities with a variation, a standing offer, a blank one, none, and no kind."""
     t.open(6, 5)
     for f in range(5):
         t.call(capability(f, LOAD if f == 4 else GENERATION))
@@ -337,7 +381,9 @@ def make(t):
     t.call(total(5, 100), 3)
     t.words()
 
-    t.list('nothing-in-force', 'Look-ups that draw 19: another facility, service or slot than the one filed for, and after a variation\'s period.')
+
+def nothing_in_force(t):
+    """Look-ups that draw 19: another facility, service or slot than the one filed for, and after a variation's period."""
     t.open(2, 5)
     for f in (0, 1):
         t.call(capability(f, GENERATION))
@@ -351,13 +397,15 @@ def make(t):
     t.call(look_up(0, 2, 60 + 336), 0, 1, 1)
     t.words()
 
-    t.list('refused-writes-nothing', 'A run of refused calls of every number between two checksums that are the same; words past N stay.')
+
+def refused_writes_nothing(t):
+    """A run of refused calls of every number between two checksums that are the same; words past N stay."""
     t.open(1, 5, past=5)
     t.call(capability(0, GENERATION))
     t.call(standing(0, 0, 60, [(1, 5)]))
     t.call(clock(30 * 59))
     t.words()
-    for r, number in ((b'', 2), (look_up(1, 0, 61), 3), (look_up(0, 5, 61), 3), (total(0, 61) [:111] + b'\x01', 4), (clock(0), 6), (outage(0, 9999, 1), 7),
+    for r, number in ((b'', 2), (look_up(1, 0, 61), 3), (look_up(0, 5, 61), 3), (total(0, 61)[:111] + b'\x01', 4), (clock(0), 6), (outage(0, 9999, 1), 7),
                       (notice(2, 1, 2), 7), (withdrawal(0), 7), (capability(0, LOAD), 8), (standing(0, 0, 336), 10), (standing(0, 0, 70, [(450001, 1)]), 11),
                       (standing(0, 0, 70, [(1, 0)]), 12), (standing(0, 0, 70, [(1, 1), (1, 1)]), 13), (standing(0, 0, 70, ramps=(0, 41)), 14), (standing(0, 2, 70), 15),
                       (standing(0, 4, 70, [(1, 201)]), 16), (standing(0, 0, 60, [(1, 6)]), 17), (variation(0, 0, 60, [(1, 6)]), 17), (look_up(0, 1, 61), 19),
