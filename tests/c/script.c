@@ -70,6 +70,7 @@ bool read_bytes(const char *text, uint8_t **bytes, size_t *length)
     size_t digits = strcmp(text, "-") == 0 ? 0 : strlen(text);
     *length = digits / 2;
     *bytes = held(malloc(*length + 1));
+    (*bytes)[*length] = 0xFF; /* a test for zeros that reads one byte too many finds it */
     bool is_right = digits % 2 == 0;
     for (size_t i = 0; is_right && i < *length; i++) {
         int high = digit_of(text[2 * i]), low = digit_of(text[2 * i + 1]);
