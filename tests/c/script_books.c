@@ -110,21 +110,22 @@ static const char *open_books(struct books *b, const struct line *l, struct answ
     int64_t lent = (good_sizes ? (int64_t)BILZHAAN_BOOK_WORDS(n[1], n[2]) : 0) + n[9];
     if (lent < 0 || lent > WORDS_MOST)
         return "so many words can't be lent";
+    int32_t limits[7] = {n[3], n[4], n[5], n[6], n[7], n[8], CANARY}; /* a test of a seventh limit would refuse */
     give_back(b);
     b->is_lent = true;
     b->lent = (size_t)lent;
     b->library = lend(b->lent);
     b->plain = lend(b->lent);
     b->listed = lend(b->lent);
-    uint32_t numbers[BOOKS] = {bilzhaan_open(b->library, b->lent, n[1], n[2], n + 3),
-                               plain_open(b->plain, b->lent, n[1], n[2], n + 3),
-                               (uint32_t)listed_opening_number(b->lent, n[1], n[2], n + 3)};
+    uint32_t numbers[BOOKS] = {bilzhaan_open(b->library, b->lent, n[1], n[2], limits),
+                               plain_open(b->plain, b->lent, n[1], n[2], limits),
+                               (uint32_t)listed_opening_number(b->lent, n[1], n[2], limits)};
     for (int i = 0; i < BOOKS; i++)
         say(&a->by[i], "%" PRIu32, numbers[i]);
     a->number = numbers[LIBRARY];
     b->machine_follows = numbers[LIST_MACHINE] == 0;
     if (b->machine_follows)
-        list_machine_open(&b->machine, n[1], n[2], n + 3);
+        list_machine_open(&b->machine, n[1], n[2], limits);
     return NULL;
 }
 

@@ -13,7 +13,7 @@ TRIES = (([(4000, 500), (5000, 200)], 0), ([(4000, 500), (5000, 201)], 0), ([(40
          ([(4000, 501), (5000, 199)], 17), ([(4000, 501)], 17), ([(4000, 500), (5001, 200)], 17), ([(4000, 500), (4500, 1)], 17), ([], 0), ([(4000, 1)], 0),
          ([(3999, 1)], 17), ([(4000, 500), (5000, 200), (6000, 100)], 0), ([None, (4000, 500), None, (5000, 200)], 0), ({9: (4000, 500)}, 0),
          ([(3999, 250), (4000, 250)], 17), ([(4000, 250), (4001, 250)], 17), ([(4000, 500), (5000, 1), (5001, 1)], 17), ({8: (4000, 500), 9: (5000, 300)}, 0),
-         ([(4000, 450), (5000, 300)], 17))
+         ([(4000, 450), (5000, 300)], 17), ({8: (4000, 500), 9: (5001, 1)}, 17), ({0: (4000, 500), 9: (5000, 200)}, 0))
 
 
 def _over(t, held):
@@ -269,6 +269,57 @@ def prices_tenth_by_tenth(t):
 def prices_tenth_by_tenth_over_blanks(t):
     """Prices compared tenth by tenth over a held offer whose pairs stand third and eighth, blanks around them."""
     _over(t, {2: (4000, 500), 7: (5000, 200)})
+
+
+def prices_tenth_by_tenth_at_the_end(t):
+    """Prices compared tenth by tenth over a held offer whose pairs stand ninth and tenth."""
+    _over(t, {8: (4000, 500), 9: (5000, 200)})
+
+
+def ten_pairs_inside_the_gate(t):
+    """Ten pairs held, and ten filed inside the gate that differ in one price, one quantity or not at all."""
+    held = [(i - 4, 10 + i) for i in range(10)]
+    t.open(22, 1)
+    for f in range(22):
+        t.call(capability(f, GENERATION))
+        t.call(standing(f, 0, 4, held))
+    t.call(clock(60))
+    for i in range(10):
+        other_price = [(price - (k <= i), quantity) for k, (price, quantity) in enumerate(held)]
+        t.call(variation(i, 0, 4, other_price, 1), 17)
+        other_quantity = [(price, quantity + (k == i)) for k, (price, quantity) in enumerate(held)]
+        t.call(variation(10 + i, 0, 4, other_quantity, 1), 0 if i == 9 else 17)
+    t.call(variation(20, 0, 4, held, 1))
+    t.call(variation(21, 0, 4, held[:9], 1))
+    t.call(total(0, 4), 0, 22, 20 * 145 + 146 + 126)
+    t.words()
+
+
+def neighbouring_cells(t):
+    """Every cell beside a held offer's is filled: the look-up, the total, the gate and the test for a duplicate keep to its own 24 words."""
+    t.open(3, 5)
+    for f in range(3):
+        t.call(capability(f, with_words(GENERATION, {9: 1000, 10: 1000, 11: 1000})))
+    for f in range(3):
+        for s in (1, 2, 3):
+            for slot in (99, 100, 101):
+                t.call(standing(f, s, slot, [(1, 11), None, None, None, (2, 13)], 1000))
+                t.call(variation(f, s, slot, [(1, 12), None, None, None, (2, 14)], 0, 999))
+    t.call(standing(1, 1, 335, [(1, 11)], 1000))
+    t.call(standing(1, 2, 0, [(1, 12)], 1000))
+    t.call(variation(1, 1, 335, [(1, 13)], 0, 1000))
+    t.call(clock(2970))
+    t.call(notice(5, 100, 101))
+    t.call(look_up(1, 2, 100), 0, 2, 26)
+    t.call(look_up(1, 1, 335), 0, 2, 13)
+    t.call(total(2, 100), 0, 3, 78)
+    t.call(variation(1, 2, 100, [(1, 12), (2, 14)], 5, 1), 17)
+    t.call(variation(1, 2, 100, [(1, 12), (2, 15)], 5, 1))
+    t.call(variation(2, 3, 101, [(1, 12), None, None, None, (2, 15)], 5, 1))
+    t.call(total(2, 100), 0, 3, 79)
+    t.call(standing(1, 2, 99, [(1, 11), None, None, None, (2, 13)], 1000), 18)
+    t.call(standing(1, 2, 100, [(1, 11), None, None, None, (2, 13)], 1000), 17)
+    t.words()
 
 
 def an_earlier_variation_is_the_old(t):
