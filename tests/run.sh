@@ -81,8 +81,7 @@ check "calls from C++" "$out/header_test"
 
 $c11 tests/c/library_*.c tests/c/check.c "$library" -o "$out/library_test"
 $c11 tests/c/vectors_test.c tests/c/list_machine.c bench/plain_book.c "$library" -o "$out/vectors_test"
-$c11 tests/c/scripts_test.c tests/c/script.c tests/c/script_books.c tests/c/listed_words.c tests/c/list_machine.c \
-    bench/plain_book.c "$library" -o "$out/scripts_test"
+$c11 tests/c/script*.c tests/c/listed_words.c tests/c/list_machine.c bench/plain_book.c "$library" -o "$out/scripts_test"
 $c11 tests/c/differential_test.c tests/c/compared_call.c tests/c/random_calls.c tests/c/list_machine.c \
     bench/plain_book.c "$library" -o "$out/differential_test"
 

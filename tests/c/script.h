@@ -1,5 +1,5 @@
 /* The text form of lists, one operation a line: `name arguments = answer` (tests/vectors/README.md). Lines, numbers,
- * bytes and checksums; what the operations do is in script_books.h. */
+ * bytes and checksums; what the operations do is in script_operations.h. */
 #ifndef BILZHAAN_TESTS_SCRIPT_H
 #define BILZHAAN_TESTS_SCRIPT_H
 

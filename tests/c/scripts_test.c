@@ -1,7 +1,7 @@
 /* Runs the scripts of tests/vectors, and tests the reader on copies of them with wrong answers and on wrong lines.
  * Arguments: the files. `scripts_test --answers` reads a script without answers and prints it with them. */
 #include "script.h"
-#include "script_books.h"
+#include "script_run.h"
 
 #include <inttypes.h>
 #include <stdbool.h>

@@ -1,11 +1,11 @@
 /* Runs a script, the text form of lists, on the library, the plain book and the list machine, and compares every answer
- * and every word. The operations are rows of the table in script_books.c. */
-#ifndef BILZHAAN_TESTS_SCRIPT_BOOKS_H
-#define BILZHAAN_TESTS_SCRIPT_BOOKS_H
+ * and every word. What the operations do is in script_operations.h. */
+#ifndef BILZHAAN_TESTS_SCRIPT_RUN_H
+#define BILZHAAN_TESTS_SCRIPT_RUN_H
 
 #include <stdio.h>
 
-enum { LEVEL = 0, NUMBERS = 21 }; /* answers are of this level or below, and their numbers below NUMBERS */
+enum { NUMBERS = 21 }; /* answers' numbers are below this */
 
 struct run {
     const char *file; /* its name in messages */
