@@ -11,7 +11,7 @@ seconds=${2:-20}
 seed=${3:-1}
 cd "$(dirname "$0")/.."
 
-for tool in gcc g++ nm awk; do
+for tool in gcc g++ nm awk python3; do
     command -v "$tool" >/dev/null || { echo "$tool is not on the PATH" >&2; exit 2; }
 done
 
@@ -126,9 +126,12 @@ run tests/installed_test.sh "$library"
 
 $c11 -pthread tests/c/library_*.c tests/c/check.c "$library" -o "$out/library_test"
 $c11 tests/c/vectors_test.c tests/c/list_machine.c bench/plain_book.c "$library" -o "$out/vectors_test"
+$c11 tests/c/script*.c tests/c/listed_words.c tests/c/list_machine.c bench/plain_book.c "$library" -o "$out/scripts_test"
 
 run "$out/library_test"
 run "$out/vectors_test" tests/vectors
+run "$out/scripts_test" tests/vectors/*.txt
+check "the scripts are those that make.py makes" python3 tests/vectors/make.py --check "$out/scripts_test"
 status=0
 wait "$random" || status=$?
 trap - EXIT

@@ -1,0 +1,133 @@
+"""Records, places in the book's words and lines of the text form, for the lists of the other modules here (tests/vectors/README.md).
+
+Each line is written with the number that document 01 gives it, and each look-up and total with its word 0 and sum, as the list's
+author read the paper. make.py compares them with the answers.
+"""
+
+LIMITS = (-450000, 450000, 400000, 400001, 400002, 400003)
+
+GENERATION = (1, 1300, 800, 300, 310, 320, 200, 50, 40, 500, 600, 700, 1, 1, 1, 1, 1)
+LOAD = (2, 0, 0, 300, 310, 320, 0, 0, 0, 0, 0, 0, 0, 1, 1, 1, 0)
+
+LEAST, MOST = -2**31, 2**31 - 1
+MARK = 0x534F42
+
+
+def words_needed(F, S):
+    return 64 + 32 * F + 16128 * F * S
+
+
+def block(f):
+    return 64 + 32 * f
+
+
+def cell(F, S, f, s, h, slot):
+    return 64 + 32 * F + 24 * (((f * S + s) * 2 + h) * 336 + slot)
+
+
+# ---- records ----
+
+def _word(value):
+    return (value % 2**32).to_bytes(4, 'big')
+
+
+def record(call, facility=0, service=0, period=0, reason=0, proportion=0, ramps=(0, 0), a=0, b=0, w=()):
+    w = list(w) + [0] * (20 - len(w))
+    head = b'SOB\x00\x01' + bytes([call, facility, service]) + _word(period) + bytes([reason, 0]) + proportion.to_bytes(2, 'big')
+    return head + b''.join(_word(n) for n in (*ramps, a, b, *w))
+
+
+def clock(minute):
+    return record(1, a=minute)
+
+
+def capability(f, w):
+    return record(2, f, w=w)
+
+
+def with_words(w, changes):
+    w = list(w)
+    for i, value in changes.items():
+        w[i] = value
+    return w
+
+
+def _pairs(pairs):
+    """Pairs in their places: a list of (price, quantity), None for a blank, or {place: (price, quantity)}."""
+    if isinstance(pairs, dict):
+        pairs = [pairs.get(i) for i in range(10)]
+    return [n for pair in pairs for n in pair or (0, 0)]
+
+
+def standing(f, s, slot, pairs=(), proportion=0, ramps=(0, 0)):
+    return record(3, f, s, slot, 0, proportion, ramps, w=_pairs(pairs))
+
+
+def variation(f, s, period, pairs=(), reason=0, proportion=0, ramps=(0, 0)):
+    return record(4, f, s, period, reason, proportion, ramps, w=_pairs(pairs))
+
+
+def outage(f, minute, count):
+    return record(5, f, a=minute, b=count)
+
+
+def notice(kind, first, last):
+    return record(6, reason=kind, a=first, b=last)
+
+
+def withdrawal(kind=5):
+    return record(7, reason=kind)
+
+
+def look_up(f, s, period):
+    return record(8, f, s, period)
+
+
+def total(s, period):
+    return record(9, service=s, period=period)
+
+
+def with_bytes(r, changes):
+    r = bytearray(r)
+    for i, value in changes.items():
+        r[i] = value
+    return bytes(r)
+
+
+def one_of_each(period=100, slot=100):
+    """A good record of each call for a book of any size, for facility 0 and energy."""
+    return [clock(7), capability(0, GENERATION), standing(0, 0, slot, [(4000, 70)]), variation(0, 0, period, [(4000, 80)]), outage(0, 0, 1),
+            notice(3, 4, 5), withdrawal(), look_up(0, 0, period), total(0, period)]
+
+
+# ---- lines ----
+
+class Script:
+    def __init__(self):
+        self.ids = []
+        self.lines = []   # questions
+        self.stated = []  # for each line a pattern of its answer; None for a comment
+
+    def list(self, identity, sentence):
+        assert ' ' not in identity and sentence.endswith('.') and sentence.isascii()
+        self.ids.append(identity)
+        self._line(f'# {identity}: {sentence}', None)
+
+    def _line(self, text, stated):
+        self.lines.append(text)
+        self.stated.append(stated)
+
+    def open(self, F, S, limits=LIMITS, past=0, number=0):
+        self._line(f'open 0 {F} {S} {" ".join(map(str, limits))} {past} =', str(number))
+
+    def call(self, r, number=0, first=0, sum=0):
+        self._line(f'call {r.hex() or "-"} =', rf'{number} {first}( -?\d+){{23}} {sum}')
+
+    def test(self, r, F, S, number):
+        self._line(f'test {r.hex() or "-"} {F} {S} =', str(number))
+
+    def write(self, words):
+        self._line('write ' + ' '.join(f'{i} {value}' for i, value in words.items()) + ' =', '')
+
+    def words(self):
+        self._line('words =', r'\d+')
