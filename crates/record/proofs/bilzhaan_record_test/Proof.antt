@@ -18,6 +18,9 @@ sized c =
     c .is-sized .ensures
     ∙ ap₂ sizes-ok (toZ-ofZ {w = w32} (c .before .before .fits .facilities)) (toZ-ofZ {w = w32} (c .before .before .fits .services))
 
+cast-result : tie.Need-cast-result
+cast-result c = search needs
+
 returns : tie.Need-returns
 unfolding record-test draw _then_
 returns c = rw (← sized (c .before), c .if1 .taken)
@@ -31,8 +34,8 @@ nat-requires-2 c κs = search needs
 record-number-requires : tie.Need-record-number-requires
 record-number-requires c κs = search needs
 
-cast-result : tie.Need-cast-result
-cast-result c = search needs
+cast-result-2 : tie.Need-cast-result-2
+cast-result-2 c = search needs
 
 returns-2 : tie.Need-returns-2
 unfolding record-test draw _then_
@@ -49,9 +52,10 @@ bilzhaan-record-test-spec =
     tie.close
     (tie.spec
     is-sized-requires
+    cast-result
     returns
     nat-requires
     nat-requires-2
     record-number-requires
-    cast-result
+    cast-result-2
     returns-2)
