@@ -11,10 +11,6 @@ use Rattle.record.proofs.StrayBytes.{Gap, gap, set-in-gaps, set-or, gap
 use borrow.Author.Needs.{needs}
 use Rattle.record.proofs.has_stray.Statement.{statement}
 use Rattle.record.proofs.has_stray.Tie as tie
-use Rattle.record.proofs.has_stray.Reads as reads
-use Rattle.record.proofs.has_stray.Lts as lts
-use Rattle.record.proofs.any_set.Reads as any-set-reads
-use Rattle.record.proofs.has_stray_beside_offer.Reads as has-stray-beside-offer-reads
 
 shared-slice-read-call : tie.Need-shared-slice-read-call
 shared-slice-read-call c = search needs
