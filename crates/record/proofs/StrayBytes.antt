@@ -1,6 +1,6 @@
 -- A record's stray bytes are those that are not zero in the gaps between the bytes that its call uses.
 -- Whether gaps are those of a call is computed: both sides become the same tests, byte by byte.
-use mathlib.Core.Path.{_≡_, refl, sym, ap, _∙_}
+use mathlib.Core.Path.{_≡_, refl, sym, _∙_}
 use mathlib.Core.Bool.{Bool, true, false, cond, not, _&&_, _||_, or-false, or-assoc, and-comm}
 use mathlib.Core.List.{List, [], _∷_}
 use Prim.Native.Nat.{ℕ, zero, suc, _+_, _-_, _<_, _≤_}

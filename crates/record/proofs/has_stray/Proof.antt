@@ -1,6 +1,6 @@
 -- Each arm's gaps are what its call doesn't use: both become the same tests, byte by byte.
 -- Calls 3 and 4 meet before what stands beside an offer; a standing offer has no reason.
-use mathlib.Core.Path.{_≡_, refl, sym, _∙_}
+use mathlib.Core.Path.{_≡_, refl, _∙_}
 use mathlib.Core.Logic.{⊎-elim}
 use mathlib.Core.List.{List, [], _∷_}
 use Prim.Native.Nat.{ℕ}
