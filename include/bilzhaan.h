@@ -195,8 +195,7 @@ uint32_t bilzhaan_version(void);
 int32_t bilzhaan_book_version(void);
 
 /* What a call would refuse by the record alone, for a book of these sizes: 0, 2, 3 or 4; ahead of these 20 where
- * `facilities` isn't 1 to 64 or `services` isn't 1 or 5. For a record that waits in a queue before it is filed.
- * (Inside the library its type is int32_t. x86-64 returns both in one register, and 0 to 20 are the same in both.) */
+ * `facilities` isn't 1 to 64 or `services` isn't 1 or 5. For a record that waits in a queue before it is filed. */
 uint32_t bilzhaan_record_test(const uint8_t *bytes, size_t count, int32_t facilities, int32_t services);
 
 /* Opens a book in the first BILZHAAN_BOOK_WORDS(facilities, services) of `count` words, whatever they held: 0, or 20.

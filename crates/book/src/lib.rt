@@ -10,7 +10,7 @@ use cells::plain;
 use judging::facilities;
 use judging::services;
 use layout::head;
-use layout::record as fields;
+use layout::fields;
 use layout::refusal;
 use opening::is_book;
 use reading::look_up_call;

@@ -11,7 +11,7 @@ ghost use Rattle.gate.specs.Differing.{first-differing};
 ghost use Rattle.gate.specs.Merging.{left-of, alike, differ, merged};
 ghost use Rattle.gate.specs.Meaning.{window-of, grounds-of};
 use layout::facility;
-use layout::record;
+use layout::fields;
 use layout::time;
 use units::Price;
 use units::Quantity;
@@ -218,7 +218,7 @@ fn is_allowed(g: Grounds, service: u8, period: u64, reason: u8, old: &[i32], new
     requires { ⌜ (period < 2147483648) × (length (now old) ≤ 20) × (length (now new) ≤ 20) ⌝ }
     ensures { λ r. ⌜ r ≡ reason-holds (grounds-of g) service period (total-tenths (pairs-in (now (old .entry)))) (total-tenths (pairs-in (now (new .entry)))) reason ⌝ }
 {
-    if (record::ENERGY_SURPLUS <= reason) & (reason <= record::SYSTEM_STATUS) {
+    if (fields::ENERGY_SURPLUS <= reason) & (reason <= fields::SYSTEM_STATUS) {
         let before = total_tenths(old);
         let after = total_tenths(new);
         return reason_holds(g, service, period, before, after, reason);

@@ -2,8 +2,8 @@
 // and who draws which number. The rule's own text of them is in offer_rules and book_rules; a contract that is met shows that both agree.
 pub mod cell;
 pub mod facility;
+pub mod fields;
 pub mod head;
 pub mod offer;
-pub mod record;
 pub mod refusal;
 pub mod time;

@@ -12,7 +12,7 @@ pub mod pairs;
 use capability::is_above_capacity;
 use capability::is_proportion_refused;
 use capability::is_ramp_refused;
-use layout::record;
+use layout::fields;
 use layout::refusal;
 use layout::time;
 use pairs::findings_of;
@@ -53,7 +53,7 @@ pub fn offer_number(
     ensures { λ r. ⌜ (r ≡ offer-number (now (limits .entry)) (now (capability .entry)) service reason (now (offer .entry))) × (r ≤ 16) ⌝ }
 {
     let f = findings_of(limits, service, offer);
-    if (record::LOAD_OUTAGE < reason) | f.out_of_range {
+    if (fields::LOAD_OUTAGE < reason) | f.out_of_range {
         return refusal::OUT_OF_RANGE;
     }
     if f.priced {

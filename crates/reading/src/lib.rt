@@ -16,7 +16,7 @@ use judging::kind_number;
 use judging::period_number;
 use judging::services;
 use judging::wide;
-use layout::record as fields;
+use layout::fields;
 use layout::refusal;
 use record::word_at;
 use refusals::first_drawn;

@@ -2,6 +2,6 @@
 -- Each proof of a function stands in the folder of its name.
 pub mod TwosComplement
 pub mod WordLists
+pub mod UnknownCalls
 pub mod StrayBytes
-pub mod OfferBytes
 pub mod NumbersDrawn

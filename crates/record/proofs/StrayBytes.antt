@@ -1,16 +1,14 @@
 -- A record's stray bytes are those that are not zero in the gaps between the bytes that its call uses.
--- Whether gaps are those of a call is computed, by `fit`.
-use mathlib.Core.Path.{_≡_, refl, sym, ap, _∙_}
-use mathlib.Core.Bool.{Bool, true, false, not, _&&_, _||_, and-true, and-false, or-false, or-assoc}
+-- Whether gaps are those of a call is computed: both sides become the same tests, byte by byte.
+use mathlib.Core.Path.{_≡_, refl, sym, _∙_}
+use mathlib.Core.Bool.{Bool, true, false, cond, not, _&&_, _||_, or-false, or-assoc, and-comm}
 use mathlib.Core.List.{List, [], _∷_}
 use Prim.Native.Nat.{ℕ, zero, suc, _+_, _-_, _<_, _≤_}
 use native.Mathlib.Omega.{arith}
-use lib.Dec.{eqb, leb}
+use lib.Dec.{eqb, ltb}
 use lib.ListN.{length, getD, drop, drop-of-length-le}
 use lib.Seq.{drop-cons}
-use borrow.Author.Tests.{leb-true, not-true}
-use Rattle.offer_rules.proofs.Drawn.{and-left, and-right}
-use Rattle.book_rules.specs.Record.{any-stray}
+use Rattle.book_rules.specs.Record.{byte, any-stray, used-by-offer, used}
 use Rattle.record.specs.Gaps.{any-set}
 
 -- ---- a loop over the bytes from i to before z
@@ -36,107 +34,59 @@ pub record Gap : Type 0 where
 abbrev pub gap : ℕ → ℕ → Gap
 gap i n = record { start = i; count = n }
 
-unfoldable pub all-used : (ℕ → Bool) → ℕ → ℕ → Bool
-all-used f i zero = true
-all-used f i (suc n) = f i && all-used f (suc i) n
-
-unfoldable pub all-unused : (ℕ → Bool) → ℕ → ℕ → Bool
-all-unused f i zero = true
-all-unused f i (suc n) = not (f i) && all-unused f (suc i) n
-
--- the gaps, in order, are what f doesn't use from byte i to before z
-unfoldable pub fit : (ℕ → Bool) → ℕ → ℕ → List Gap → Bool
-fit f i z [] = leb i z && all-used f i (z - i)
-fit f i z (q ∷ l) = ((leb i (q .start) && all-used f i (q .start - i)) && all-unused f (q .start) (q .count)) && fit f (q .start + q .count) z l
-
+-- as code says it
 unfoldable pub set-in-gaps : List ℕ → List Gap → Bool
 set-in-gaps b [] = false
 set-in-gaps b (q ∷ []) = any-set b (q .start) (q .count)
 set-in-gaps b (q ∷ (r ∷ l)) = any-set b (q .start) (q .count) || set-in-gaps b (r ∷ l)
 
--- or a later byte is stray
-unfoldable pub set-or : List ℕ → List Gap → Bool → Bool
-set-or b [] later = later
-set-or b (q ∷ l) later = any-set b (q .start) (q .count) || set-or b l later
+-- byte by byte: n bytes from byte i on, or what comes later
+unfoldable pub set-or : List ℕ → ℕ → ℕ → Bool → Bool
+set-or b i zero later = later
+set-or b i (suc n) later = not (eqb (byte b i) 0) || set-or b (suc i) n later
 
-set-or-none : (b : List ℕ) (l : List Gap) → set-or b l false ≡ set-in-gaps b l
-unfolding set-or set-in-gaps
-set-or-none b [] = refl
-set-or-none b (q ∷ []) = or-false (any-set b (q .start) (q .count))
-set-or-none b (q ∷ (r ∷ l)) = ap (λ (y : Bool). any-set b (q .start) (q .count) || y) (set-or-none b (r ∷ l))
+unfoldable pub gap-bytes : List ℕ → List Gap → Bool
+gap-bytes b [] = false
+gap-bytes b (q ∷ l) = set-or b (q .start) (q .count) (gap-bytes b l)
 
-fit-ends : (f : ℕ → Bool) (i z : ℕ) (l : List Gap) → fit f i z l ≡ true → i ≤ z
-unfolding fit
-fit-ends f i z [] e = leb-true i z (and-left (leb i z) (all-used f i (z - i)) e)
-fit-ends f i z (q ∷ l) e =
-    let u = leb i (q .start) && all-used f i (q .start - i) in
-    let t = u && all-unused f (q .start) (q .count) in
-    let h = and-left t (fit f (q .start + q .count) z l) e in
-    let a = leb-true i (q .start) (and-left (leb i (q .start)) (all-used f i (q .start - i)) (and-left u (all-unused f (q .start) (q .count)) h)) in
-    let k = fit-ends f (q .start + q .count) z l (and-right t (fit f (q .start + q .count) z l) e) in
-    omega arith
+-- byte by byte: those of n from byte i on that f doesn't use
+unfoldable pub unused-bytes : (ℕ → Bool) → List ℕ → ℕ → ℕ → Bool
+unused-bytes f b i zero = false
+unused-bytes f b i (suc n) = (not (f i) && not (eqb (byte b i) 0)) || unused-bytes f b (suc i) n
 
--- f is the rule of a call, g the same up to byte z, computing
-module _ (f g : ℕ → Bool) (b : List ℕ) (z : ℕ) (whole : z ≤ length b) (alike : (i : ℕ) → i < z → f i ≡ g i) where
-  abbrev from : ℕ → Bool
-  from i = any-stray f i (drop i b)
+gap-first : (b : List ℕ) (i n : ℕ) (later : Bool) → (any-set b i n || later) ≡ set-or b i n later
+unfolding any-set set-or
+gap-first b i zero later = refl
+gap-first b i (suc n) later = rw (or-assoc, gap-first b (suc i) n later)
 
-  pass-used : (n i : ℕ) → i + n ≤ z → all-used g i n ≡ true → from i ≡ from (i + n)
-  unfolding all-used any-stray
-  pass-used zero i h e = let k : i + 0 ≡ i = omega arith in rw k
-  pass-used (suc n) i h e =
-      let u : f i ≡ true = alike i (omega arith) ∙ and-left (g i) (all-used g (suc i) n) e in
-      let k : suc i + n ≡ i + suc n = omega arith in
-      let s : from i ≡ from (suc i) = rw (drop-cons b i 0 (omega arith), u, and-false (not (eqb (getD b i 0) 0))) in
-      s ∙ pass-used n (suc i) (omega arith) (and-right (g i) (all-used g (suc i) n) e) ∙ ap from k
+each-gap : (b : List ℕ) (l : List Gap) → set-in-gaps b l ≡ gap-bytes b l
+unfolding set-in-gaps gap-bytes
+each-gap b [] = refl
+each-gap b (q ∷ []) = sym (or-false (any-set b (q .start) (q .count))) ∙ gap-first b (q .start) (q .count) false
+each-gap b (q ∷ (r ∷ l)) = rw (each-gap b (r ∷ l)) (gap-first b (q .start) (q .count) (gap-bytes b (r ∷ l)))
 
-  pass-unused : (n i : ℕ) → i + n ≤ z → all-unused g i n ≡ true → from i ≡ (any-set b i n || from (i + n))
-  unfolding all-unused any-stray any-set
-  pass-unused zero i h e = let k : i + 0 ≡ i = omega arith in rw k
-  pass-unused (suc n) i h e =
-      let u : f i ≡ false = alike i (omega arith) ∙ not-true (g i) (and-left (not (g i)) (all-unused g (suc i) n) e) in
-      let k : suc i + n ≡ i + suc n = omega arith in
-      let x : Bool = not (eqb (getD b i 0) 0) in
-      let s : from i ≡ (x || from (suc i)) = rw (drop-cons b i 0 (omega arith), u, and-true x) in
-      s
-      ∙ ap (λ (y : Bool). x || y) (pass-unused n (suc i) (omega arith) (and-right (not (g i)) (all-unused g (suc i) n) e))
-      ∙ sym (or-assoc x (any-set b (suc i) n) (from (suc i + n)))
-      ∙ ap (λ (m : ℕ). (x || any-set b (suc i) n) || from m) k
+-- f is the rule of a call, g the same, computing
+each-byte : (f g : ℕ → Bool) (b : List ℕ) (n i : ℕ) → i + n ≡ length b → ((j : ℕ) → f j ≡ g j) → any-stray f i (drop i b) ≡ unused-bytes g b i n
+unfolding any-stray unused-bytes
+each-byte f g b zero i e h = rw (drop-of-length-le b {i = i} (omega arith))
+each-byte f g b (suc n) i e h = rw (drop-cons b i 0 (omega arith), h i, and-comm (not (eqb (byte b i) 0)) (not (g i)), each-byte f g b n (suc i) (omega arith) h)
 
-  pub stray-or-later : (i : ℕ) (l : List Gap) → fit g i z l ≡ true → from i ≡ set-or b l (from z)
-  unfolding fit set-or
-  stray-or-later i [] e =
-      let h = leb-true i z (and-left (leb i z) (all-used g i (z - i)) e) in
-      let k : i + (z - i) ≡ z = omega arith in
-      pass-used (z - i) i (omega arith) (and-right (leb i z) (all-used g i (z - i)) e) ∙ ap from k
-  stray-or-later i (q ∷ l) e =
-      let a = q .start in
-      let n = q .count in
-      let u = leb i a && all-used g i (a - i) in
-      let t = u && all-unused g a n in
-      let ht = and-left t (fit g (a + n) z l) e in
-      let hu = and-left u (all-unused g a n) ht in
-      let hl = and-right t (fit g (a + n) z l) e in
-      let le = leb-true i a (and-left (leb i a) (all-used g i (a - i)) hu) in
-      let end = fit-ends g (a + n) z l hl in
-      let k : i + (a - i) ≡ a = omega arith in
-      pass-used (a - i) i (omega arith) (and-right (leb i a) (all-used g i (a - i)) hu)
-      ∙ ap from k
-      ∙ pass-unused n a (omega arith) (and-right u (all-unused g a n) ht)
-      ∙ ap (λ (y : Bool). any-set b a n || y) (stray-or-later (a + n) l hl)
+pub stray-in-gaps : (f g : ℕ → Bool) (b : List ℕ) (l : List Gap) → length b ≡ 112 → ((j : ℕ) → f j ≡ g j) → gap-bytes b l ≡ unused-bytes g b 6 106
+    → set-in-gaps b l ≡ any-stray f 6 (drop 6 b)
+stray-in-gaps f g b l n h e = each-gap b l ∙ e ∙ sym (each-byte f g b 106 6 (sym n) h)
 
-none-past : (f : ℕ → Bool) (b : List ℕ) (i : ℕ) → length b ≤ i → any-stray f i (drop i b) ≡ false
-unfolding any-stray
-none-past f b i h = rw (drop-of-length-le b h)
+-- a standing offer has a gap at byte 12, where a variation has its reason
+offer-past-reason : (s : ℕ) → used-by-offer s 12 ≡ false
+unfolding used-by-offer
+offer-past-reason s = go (eqb s 0) (ltb s 4)
+  where
+    go : (e l : Bool) → cond e false ((l && false) || false) ≡ false
+    go true l = refl
+    go false true = refl
+    go false false = refl
 
--- to the last byte
-pub stray-in-gaps : (f g : ℕ → Bool) (b : List ℕ) (i : ℕ) (l : List Gap) → length b ≡ 112 → ((j : ℕ) → f j ≡ g j) → fit g i 112 l ≡ true
-    → set-in-gaps b l ≡ any-stray f i (drop i b)
-stray-in-gaps f g b i l n alike e =
-    sym (stray-or-later f g b 112 (omega arith) (λ j h. alike j) i l e ∙ ap (set-or b l) (none-past f b 112 (omega arith)) ∙ set-or-none b l)
-
--- two rules that are alike from byte i on
-pub stray-alike : (f g : ℕ → Bool) (i : ℕ) (l : List ℕ) → ((j : ℕ) → i ≤ j → f j ≡ g j) → any-stray f i l ≡ any-stray g i l
-unfolding any-stray
-stray-alike f g i [] h = refl
-stray-alike f g i (x ∷ l) h = rw (h i (omega arith), stray-alike f g (suc i) l (λ j k. h j (omega arith)))
+pub standing-stray : (s : ℕ) (b : List ℕ) → length b ≡ 112
+    → (not (eqb (byte b 12) 0) || any-stray (used 4 s) 6 (drop 6 b)) ≡ any-stray (used 3 s) 6 (drop 6 b)
+unfolding used unused-bytes
+standing-stray s b n =
+    rw (each-byte (used 3 s) (used 3 s) b 106 6 (sym n) (λ j. refl), each-byte (used 4 s) (used 4 s) b 106 6 (sym n) (λ j. refl), offer-past-reason s)

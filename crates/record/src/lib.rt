@@ -1,17 +1,37 @@
 // A record's bytes: its words, the bytes that its call uses, and refusals 2, 3 and 4 of it.
 // The gateway's C program calls bilzhaan_record_test.
 ghost use mathlib.Core.Path.{_≡_};
-ghost use Prim.Native.Nat.{_+_, _*_, _-_, _/_, _%_, _≤_, _<_};
+ghost use Prim.Native.Nat.{ℕ, _+_, _*_, _-_, _/_, _%_, _≤_, _<_};
 ghost use lib.IntN.{pos};
 ghost use lib.ListN.{length, drop};
-ghost use lib.Dec.{eqb};
-ghost use mathlib.Core.Bool.{false};
-ghost use Rattle.book_rules.specs.Record.{byte, service-of, signed, word-at, words-at, offer-in, capability-in};
-ghost use Rattle.book_rules.specs.Record.{between, used-by-offer, used, is-record, outside, any-stray, has-stray};
+ghost use mathlib.Core.Bool.{_&&_, _||_};
+ghost use Rattle.book_rules.specs.Record.{byte, signed, word-at, words-at, offer-in, capability-in};
+ghost use Rattle.book_rules.specs.Record.{used, is-record, outside, any-stray, has-stray};
 ghost use Rattle.book_rules.specs.Record.{record-number, sizes-ok, record-test};
 ghost use Rattle.record.specs.Gaps.{any-set};
+use layout::facility;
+use layout::head;
+use layout::offer;
+use layout::fields::A;
+use layout::fields::B;
+use layout::fields::BYTES;
+use layout::fields::CALL;
+use layout::fields::FACILITY;
+use layout::fields::PROPORTION;
+use layout::fields::RAMP_DOWN;
+use layout::fields::RAMP_UP;
+use layout::fields::REASON;
+use layout::fields::SERVICE;
+use layout::fields::W0;
+use layout::fields::ZERO;
+use layout::refusal;
 use units::first;
 use units::nat;
+
+// The words past an offer's five pairs and past a capability's W16.
+const W10: usize = W0 + 4 * 10;
+
+const W17: usize = W0 + 4 * facility::CAPABILITY;
 
 // Two bytes, most significant first.
 fn join_two(a: u8, b: u8) -> u32
@@ -106,56 +126,20 @@ pub fn read_offer(bytes: &[u8], words: &mut [i32])
     requires { ⌜ (length (now bytes) ≡ 112) × (length (now words) ≡ 23) ⌝ }
     ensures { λ _. ⌜ now (words .exit) ≡ offer-in (now (bytes .entry)) ⌝ }
 {
-    words[0] = half_at(bytes, 14);
-    words[1] = word_at(bytes, 16);
-    words[2] = word_at(bytes, 20);
-    fill_pairs(&mut words[3..23], bytes, 32);
+    words[offer::PROPORTION] = half_at(bytes, PROPORTION);
+    words[offer::RAMP_UP] = word_at(bytes, RAMP_UP);
+    words[offer::RAMP_DOWN] = word_at(bytes, RAMP_DOWN);
+    fill_pairs(&mut words[offer::PAIRS..offer::WORDS], bytes, W0);
 }
 
 // W0 to W16.
-pub fn capability_in(bytes: &[u8]) -> [i32; 17]
+pub fn capability_in(bytes: &[u8]) -> [i32; facility::CAPABILITY]
     requires { ⌜ length (now bytes) ≡ 112 ⌝ }
     ensures { λ r. ⌜ r ≡ capability-in (now (bytes .entry)) ⌝ }
 {
-    let mut words = [0i32; 17];
-    fill_words(&mut words, bytes, 32);
+    let mut words = [0i32; facility::CAPABILITY];
+    fill_words(&mut words, bytes, W0);
     words
-}
-
-// From a to z, both taken in.
-fn is_between(a: usize, z: usize, i: usize) -> bool
-    ensures { λ r. ⌜ r ≡ between a z i ⌝ }
-{
-    (a <= i) & (i <= z)
-}
-
-// "An offer for service 0 uses both ramps and ten pairs; for 1 to 3 the proportion and five pairs; for 4 five pairs."
-fn is_used_by_offer(service: u8, i: usize) -> bool
-    ensures { λ r. ⌜ r ≡ used-by-offer service i ⌝ }
-{
-    if service == 0 {
-        is_between(16, 23, i) | is_between(32, 111, i)
-    } else {
-        ((service < 4) & is_between(14, 15, i)) | is_between(32, 71, i)
-    }
-}
-
-// "The nine calls and what they use", from byte 6 on.
-pub fn is_used(call: u8, service: u8, i: usize) -> bool
-    ensures { λ r. ⌜ r ≡ used call service i ⌝ }
-{
-    match call {
-        1 => is_between(24, 27, i),
-        2 => (i == 6) | is_between(32, 99, i),
-        3 => is_between(6, 11, i) | is_used_by_offer(service, i),
-        4 => is_between(6, 12, i) | is_used_by_offer(service, i),
-        5 => (i == 6) | is_between(24, 31, i),
-        6 => (i == 12) | is_between(24, 31, i),
-        7 => i == 12,
-        8 => is_between(6, 11, i),
-        9 => is_between(7, 11, i),
-        0 | 10..=255 => false,
-    }
 }
 
 // 2 "not 112 bytes, or mark, version or call wrong", of 112 bytes.
@@ -170,7 +154,7 @@ fn is_record(bytes: &[u8]) -> bool
     if bytes[4] != 1 {
         return false;
     }
-    (1 <= bytes[5]) & (bytes[5] <= 9)
+    (1 <= bytes[CALL]) & (bytes[CALL] <= 9)
 }
 
 // A byte as a count.
@@ -180,20 +164,37 @@ fn wide(x: u8) -> u64
     x as u64
 }
 
+// The calls that use byte 6, the facility, and byte 7, the service.
+fn is_outside_where_used(call: u8, no_facility: bool, no_service: bool) -> bool
+    ensures { λ r. ⌜ ((s : ℕ) → r ≡ ((used call s 6 && «no_facility») || (used call s 7 && «no_service»))) ⌝ }
+{
+    match call {
+        1 => false,
+        2 => no_facility,
+        3 => no_facility | no_service,
+        4 => no_facility | no_service,
+        5 => no_facility,
+        6 => false,
+        7 => false,
+        8 => no_facility | no_service,
+        9 => no_service,
+        0 | 10..=255 => false,
+    }
+}
+
 // 3 "facility ≥ F or service ≥ S, where used". Most records have both below, and then no call is told from another.
 fn is_outside(bytes: &[u8], facilities: u64, services: u64) -> bool
     requires { ⌜ length (now bytes) ≡ 112 ⌝ }
     ensures { λ r. ⌜ r ≡ outside (now (bytes .entry)) facilities services ⌝ }
 {
-    let call = bytes[5];
-    let service = bytes[7];
-    let no_facility = facilities <= wide(bytes[6]);
-    let no_service = services <= wide(service);
+    let call = bytes[CALL];
+    let no_facility = facilities <= wide(bytes[FACILITY]);
+    let no_service = services <= wide(bytes[SERVICE]);
     if no_facility {
-        return is_used(call, service, 6) | (is_used(call, service, 7) & no_service);
+        return is_outside_where_used(call, no_facility, no_service);
     }
     if no_service {
-        return is_used(call, service, 7);
+        return is_outside_where_used(call, no_facility, no_service);
     }
     false
 }
@@ -210,85 +211,82 @@ fn any_set(bytes: &[u8], from: usize, to: usize) -> bool
     seen
 }
 
-// 4 of a call that carries an offer, from byte 13 on.
+// 4 of a variation, by its service.
+// "An offer for service 0 uses both ramps and ten pairs; for 1 to 3 the proportion and five pairs; for 4 five pairs."
+// The gaps of service 0 are tested apart: A and B by themselves are one comparison of eight bytes.
 fn has_stray_beside_offer(bytes: &[u8], service: u8) -> bool
     requires { ⌜ length (now bytes) ≡ 112 ⌝ }
-    ensures { λ r. ⌜ r ≡ any-stray (used-by-offer service) 13 (drop 13 (now (bytes .entry))) ⌝ }
+    ensures { λ r. ⌜ r ≡ any-stray (used 4 service) 6 (drop 6 (now (bytes .entry))) ⌝ }
 {
-    if service == 0 {
-        any_set(bytes, 13, 16) | any_set(bytes, 24, 32)
-    } else if service < 4 {
-        any_set(bytes, 13, 14) | (any_set(bytes, 16, 32) | any_set(bytes, 72, 112))
+    if service == facility::ENERGY {
+        any_set(bytes, ZERO, RAMP_UP) || any_set(bytes, A, W0)
+    } else if service < facility::REGULATION {
+        any_set(bytes, ZERO, PROPORTION)
+            | (any_set(bytes, RAMP_UP, W0) | any_set(bytes, W10, BYTES))
     } else {
-        any_set(bytes, 13, 32) | any_set(bytes, 72, 112)
+        any_set(bytes, ZERO, W0) | any_set(bytes, W10, BYTES)
     }
 }
 
-// 4 of a call that carries no offer: the gaps between the bytes of is_used.
-// One match, then loops whose ends are constants: a match for each byte takes thirty times as long.
-fn has_stray_beside_words(bytes: &[u8], call: u8) -> bool
-    requires { ⌜ (length (now bytes) ≡ 112) × (eqb call 3 ≡ false) × (eqb call 4 ≡ false) ⌝ }
-    ensures { λ r. ⌜ r ≡ any-stray (used call (service-of (now (bytes .entry)))) 6 (drop 6 (now (bytes .entry))) ⌝ }
-{
-    match call {
-        1 => any_set(bytes, 6, 24) | any_set(bytes, 28, 112),
-        2 => any_set(bytes, 7, 32) | any_set(bytes, 100, 112),
-        5 => any_set(bytes, 7, 24) | any_set(bytes, 32, 112),
-        6 => any_set(bytes, 6, 12) | (any_set(bytes, 13, 24) | any_set(bytes, 32, 112)),
-        7 => any_set(bytes, 6, 12) | any_set(bytes, 13, 112),
-        8 => any_set(bytes, 12, 112),
-        9 => any_set(bytes, 6, 7) | any_set(bytes, 12, 112),
-        0 | 3 | 4 | 10..=255 => any_set(bytes, 6, 112),
-    }
-}
-
-// 4 "an unused byte not zero". Calls 3 and 4, which carry an offer, are told apart by byte 12 alone, a variation's reason.
+// 4 "an unused byte not zero": the gaps between the bytes of "The nine calls and what they use", from byte 6 on.
+// Their ends are constants: a match for each byte takes thirty times as long. A standing offer has a gap at byte 12, where a variation
+// has its reason; past it calls 3 and 4 share one test of the offer, which is compiled in place as it is called once.
 fn has_stray(bytes: &[u8]) -> bool
     requires { ⌜ length (now bytes) ≡ 112 ⌝ }
     ensures { λ r. ⌜ r ≡ has-stray (now (bytes .entry)) ⌝ }
 {
-    let call = bytes[5];
-    if (call == 3) | (call == 4) {
-        if call == 3 {
-            if bytes[12] != 0 {
+    let call = bytes[CALL];
+    match call {
+        1 => return any_set(bytes, FACILITY, A) | any_set(bytes, B, BYTES),
+        2 => return any_set(bytes, SERVICE, W0) | any_set(bytes, W17, BYTES),
+        3 => {
+            if bytes[REASON] != 0 {
                 return true;
             }
         }
-        return has_stray_beside_offer(bytes, bytes[7]);
+        4 => {}
+        5 => return any_set(bytes, SERVICE, A) | any_set(bytes, W0, BYTES),
+        6 => return any_set(bytes, FACILITY, REASON)
+            | (any_set(bytes, ZERO, A) | any_set(bytes, W0, BYTES)),
+        7 => return any_set(bytes, FACILITY, REASON) | any_set(bytes, ZERO, BYTES),
+        8 => return any_set(bytes, REASON, BYTES),
+        9 => return any_set(bytes, FACILITY, SERVICE) | any_set(bytes, REASON, BYTES),
+        0 | 10..=255 => return any_set(bytes, FACILITY, BYTES),
     }
-    has_stray_beside_words(bytes, call)
+    has_stray_beside_offer(bytes, bytes[SERVICE])
 }
 
 // 2, 3, 4 or 0, for F facilities and S services.
 pub fn record_number(bytes: &[u8], facilities: u64, services: u64) -> u8
     ensures { λ r. ⌜ (r ≡ record-number (now (bytes .entry)) facilities services) × (r ≤ 4) ⌝ }
 {
-    if bytes.len() != 112 {
-        return 2;
+    if bytes.len() != BYTES {
+        return refusal::NOT_A_RECORD;
     }
     if !is_record(bytes) {
-        return 2;
+        return refusal::NOT_A_RECORD;
     }
     if is_outside(bytes, facilities, services) {
-        return 3;
+        return refusal::NOT_IN_BOOK;
     }
-    first(has_stray(bytes), 4, 0)
+    first(has_stray(bytes), refusal::UNUSED_BYTE, 0)
 }
 
 // "F not 1 to 64, S not 1 or 5"
 pub fn is_sized(facilities: i32, services: i32) -> bool
     ensures { λ r. ⌜ r ≡ sizes-ok facilities services ⌝ }
 {
-    ((1 <= facilities) & (facilities <= 64)) & ((services == 1) | (services == 5))
+    ((1 <= facilities) & (facilities <= head::MOST_FACILITIES))
+        & ((services == head::ONE_SERVICE) | (services == head::ALL_SERVICES))
 }
 
 // 20 where F or S is wrong, else 2, 3, 4 or 0.
 #[no_mangle]
-pub extern "C" fn bilzhaan_record_test(bytes: &[u8], facilities: i32, services: i32) -> i32
-    ensures { λ r. ⌜ r ≡ pos (record-test (now (bytes .entry)) facilities services) ⌝ }
+pub extern "C" fn bilzhaan_record_test(bytes: &[u8], facilities: i32, services: i32) -> u32
+    ensures { λ r. ⌜ r ≡ record-test (now (bytes .entry)) facilities services ⌝ }
 {
     if !is_sized(facilities, services) {
-        return 20;
+        return refusal::OPENING_REFUSED as u32;
     }
-    record_number(bytes, nat(facilities), nat(services)) as i32
+    record_number(bytes, nat(facilities), nat(services)) as u32
 }

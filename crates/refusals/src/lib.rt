@@ -12,7 +12,7 @@ ghost use Rattle.book_rules.specs.Refusals.{facility-number, clock-number, outa
 use gate::standing_gate_refuses;
 use layout::facility;
 use layout::offer;
-use layout::record;
+use layout::fields;
 use layout::refusal;
 use layout::time;
 use units::any_beyond;
@@ -123,7 +123,7 @@ pub fn outage_last(minute: i32, count: i32) -> i32
 pub fn notice_number(kind: u8, first: i32, last: i32) -> u8
     ensures { λ r. ⌜ (r ≡ notice-number kind first last) × (r ≤ 7) ⌝ }
 {
-    let is_kind = (record::ENERGY_SURPLUS <= kind) & (kind <= record::SYSTEM_STATUS);
+    let is_kind = (fields::ENERGY_SURPLUS <= kind) & (kind <= fields::SYSTEM_STATUS);
     let is_window = ((0 <= first) & (first <= last)) & (last <= time::LAST_NOTICE_PERIOD);
     draw_if(!is_kind | !is_window, refusal::NOTICE_REFUSED)
 }
@@ -132,7 +132,7 @@ pub fn notice_number(kind: u8, first: i32, last: i32) -> u8
 pub fn withdrawal_number(kind: u8) -> u8
     ensures { λ r. ⌜ (r ≡ withdrawal-number kind) × (r ≤ 7) ⌝ }
 {
-    draw_if(!(kind == record::SYSTEM_STATUS), refusal::NOTICE_REFUSED)
+    draw_if(!(kind == fields::SYSTEM_STATUS), refusal::NOTICE_REFUSED)
 }
 
 // ---- 8: standing capability data

@@ -29,7 +29,7 @@ use layout::cell;
 use layout::facility;
 use layout::head;
 use layout::offer;
-use layout::record as fields;
+use layout::fields;
 use layout::refusal;
 use layout::time;
 use offers::is_period_refused;

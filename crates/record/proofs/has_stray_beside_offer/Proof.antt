@@ -1,12 +1,15 @@
 -- The gaps beside an offer, for service 0, 1 to 3, and 4 or more.
--- `fit` computes that they are what such an offer doesn't use.
-use mathlib.Core.Path.{refl}
+-- Services 1 to 3 use the bytes of service 1, and those from 4 on the bytes of service 4.
+use mathlib.Core.Path.{_≡_, refl}
 use mathlib.Core.Bool.{_||_}
-use mathlib.Core.List.{[], _∷_}
+use mathlib.Core.List.{List, [], _∷_}
+use Prim.Native.Nat.{ℕ}
 use native.Mathlib.Omega.{arith}
-use borrow.Author.Tests.{eq-eqb, ne-eqb, lt-ltb, le-ltb}
-use Rattle.book_rules.specs.Record.{used-by-offer, between}
-use Rattle.record.proofs.StrayBytes.{gap, fit, set-in-gaps, all-used, all-unused, stray-in-gaps}
+use lib.ListN.{length, drop}
+use borrow.Author.Tests.{ne-eqb, lt-ltb, le-ltb}
+use Rattle.book_rules.specs.Record.{any-stray, used-by-offer, used}
+use Rattle.record.specs.Gaps.{any-set}
+use Rattle.record.proofs.StrayBytes.{gap, set-in-gaps, set-or, gap-bytes, unused-bytes, stray-in-gaps}
 use borrow.Author.Needs.{needs}
 use Rattle.record.proofs.has_stray_beside_offer.Statement.{statement}
 use Rattle.record.proofs.has_stray_beside_offer.Tie as tie
@@ -32,32 +35,33 @@ any-set-requires-6 c κs = search needs
 any-set-requires-7 : tie.Need-any-set-requires-7
 any-set-requires-7 c κs = search needs
 
+energy-stray : (t : ℕ) (b : List ℕ) → t ≡ 0 → length b ≡ 112 → (any-set b 13 3 || any-set b 24 8) ≡ any-stray (used 4 t) 6 (drop 6 b)
+unfolding used set-in-gaps set-or gap-bytes unused-bytes used-by-offer
+energy-stray t b e n = stray-in-gaps (used 4 t) (used 4 0) b (gap _ _ ∷ (gap _ _ ∷ [])) n (λ i. rw e) refl
+
 returns : tie.Need-returns
-unfolding used-by-offer fit set-in-gaps all-used all-unused
 returns c =
     let s = c .before .before .before .before in
-    let b = s .args .bytes .now in
-    let t = s .args .service in
-    rw (c .any-set2 .ensures, c .before .any-set .ensures)
-    (stray-in-gaps (used-by-offer t) (λ i. between 16 23 i || between 32 111 i) b 13 (gap _ _ ∷ (gap _ _ ∷ [])) (s .pre) (λ i. rw (eq-eqb t 0 (omega arith))) refl)
+    rw (← energy-stray (s .args .service) (s .args .bytes .now) (omega arith) (s .pre), ← c .before .any-set .ensures, c .if2 .taken)
 
 returns-2 : tie.Need-returns-2
-unfolding used-by-offer fit set-in-gaps all-used all-unused
 returns-2 c =
-    let s = c .before .before .before .before .before .before in
-    let b = s .args .bytes .now in
-    let t = s .args .service in
-    rw (c .any-set5 .ensures, c .before .any-set4 .ensures, c .before .before .any-set3 .ensures)
-    (stray-in-gaps (used-by-offer t) (λ i. between 14 15 i || between 32 71 i) b 13 (gap _ _ ∷ (gap _ _ ∷ (gap _ _ ∷ []))) (s .pre) (λ i. rw (ne-eqb t 0 (λ e. omega arith), lt-ltb t 4 (omega arith))) refl)
+    let s = c .before .before .before .before .before in
+    rw (← energy-stray (s .args .service) (s .args .bytes .now) (omega arith) (s .pre), ← c .before .before .any-set .ensures, c .before .if2 .left, c .any-set2 .ensures)
 
 returns-3 : tie.Need-returns-3
-unfolding used-by-offer fit set-in-gaps all-used all-unused
+unfolding used-by-offer used set-in-gaps set-or gap-bytes unused-bytes
 returns-3 c =
-    let s = c .before .before .before .before .before in
-    let b = s .args .bytes .now in
+    let s = c .before .before .before .before .before .before in
     let t = s .args .service in
-    rw (c .any-set7 .ensures, c .before .any-set6 .ensures)
-    (stray-in-gaps (used-by-offer t) (λ i. between 32 71 i) b 13 (gap _ _ ∷ (gap _ _ ∷ [])) (s .pre) (λ i. rw (ne-eqb t 0 (λ e. omega arith), le-ltb t 4 (omega arith))) refl)
+    rw (c .any-set5 .ensures, c .before .any-set4 .ensures, c .before .before .any-set3 .ensures) (stray-in-gaps (used 4 t) (used 4 1) (s .args .bytes .now) (gap _ _ ∷ (gap _ _ ∷ (gap _ _ ∷ []))) (s .pre) (λ i. rw (ne-eqb t 0 (λ e. omega arith), lt-ltb t 4 (omega arith))) refl)
+
+returns-4 : tie.Need-returns-4
+unfolding used-by-offer used set-in-gaps set-or gap-bytes unused-bytes
+returns-4 c =
+    let s = c .before .before .before .before .before in
+    let t = s .args .service in
+    rw (c .any-set7 .ensures, c .before .any-set6 .ensures) (stray-in-gaps (used 4 t) (used 4 4) (s .args .bytes .now) (gap _ _ ∷ (gap _ _ ∷ [])) (s .pre) (λ i. rw (ne-eqb t 0 (λ e. omega arith), le-ltb t 4 (omega arith))) refl)
 
 pub has-stray-beside-offer-spec : {M : Type 1} → statement M
 has-stray-beside-offer-spec =
@@ -72,4 +76,5 @@ has-stray-beside-offer-spec =
     any-set-requires-7
     returns
     returns-2
-    returns-3)
+    returns-3
+    returns-4)

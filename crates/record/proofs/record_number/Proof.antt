@@ -1,7 +1,7 @@
 -- The lowest of 2, 3 and 4 that applies, else 0.
 -- A record that isn't 112 bytes draws 2 before any byte is read.
-use mathlib.Core.Path.{_≡_, sym, _∙_}
-use mathlib.Core.Bool.{cond, not}
+use mathlib.Core.Path.{_≡_, _∙_}
+use mathlib.Core.Bool.{not}
 use native.Mathlib.Omega.{arith}
 use lib.ListN.{length}
 use borrow.Author.Tests.{ne-eqb}

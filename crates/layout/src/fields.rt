@@ -1,4 +1,4 @@
-// A record's bytes.
+// A record's fields, as places in its bytes.
 // "Bytes 0–2 `SOB`; 3–4 version 1; 5 call; 6 facility; 7 service; 8–11 period word; 12 reason; 13 zero; 14–15 proportion (0 to 65,535);
 // 16–19 ramp up; 20–23 ramp down; 24–27 A; 28–31 B; 32–111 words W0 to W19, in offers ten pairs (price, quantity)."
 pub const CALL: usize = 5;
@@ -10,6 +10,8 @@ pub const SERVICE: usize = 7;
 pub const PERIOD: usize = 8;
 
 pub const REASON: usize = 12;
+
+pub const ZERO: usize = 13;
 
 pub const PROPORTION: usize = 14;
 
