@@ -1,5 +1,5 @@
 -- The worked run, computed on the book of 16,224 words and on the list machine.
-use mathlib.Core.Path.{_≡_, refl}
+use mathlib.Core.Path.{refl}
 use Rattle.cases.specs.WorkedRun.{RunOfBook, RunOfList}
 use Rattle.cases.proofs.Computes.{computes}
 

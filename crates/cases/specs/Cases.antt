@@ -1,9 +1,9 @@
 -- The cases marked (p), as one table with one statement.
 use mathlib.Core.Path.{_≡_}
 use mathlib.Core.List.{List, [], _∷_}
-use Prim.Native.Nat.{ℕ, _<_}
+use Prim.Native.Nat.{ℕ}
 use lib.IntN.{ℤ, pos, negsuc}
-use lib.ListN.{length, getD, replicate}
+use lib.ListN.{getD, replicate}
 use Rattle.book_rules.specs.Words.{opening-words}
 use Rattle.book_rules.specs.Book.{book-answer, book-run}
 use Rattle.cases.specs.Records.{_at_, clock, capability, standing, variation, notice}

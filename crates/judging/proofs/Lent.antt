@@ -1,12 +1,11 @@
 -- A part of the book that is lent on is a part of its words.
 use mathlib.Core.Path.{_≡_, _∙_, ap}
 use mathlib.Core.List.{List}
-use Prim.Native.Nat.{ℕ, _+_, _-_, _≤_, _<_}
+use Prim.Native.Nat.{ℕ, _+_, _-_, _<_}
 use native.Mathlib.Omega.{arith}
-use lib.IntN.{ℤ, pos}
+use lib.IntN.{ℤ}
 use lib.ListN.{take, drop}
 use Rattle.offer_rules.specs.Numbers.{word}
-use Rattle.offer_rules.specs.Gate.{Window}
 use Rattle.book_rules.specs.Words.{part}
 use Rattle.book_rules.specs.Book.{window-in}
 use Rattle.book_rules.proofs.Parts.{word-of-part}

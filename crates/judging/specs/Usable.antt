@@ -1,8 +1,8 @@
 -- What refusal 1 has tested of a book's words, in the test's words and as plain bounds.
 use mathlib.Core.Path.{_≡_}
-use mathlib.Core.Bool.{Bool, true}
+use mathlib.Core.Bool.{true}
 use mathlib.Core.List.{List}
-use Prim.Native.Nat.{ℕ, _+_, _*_, _≤_}
+use Prim.Native.Nat.{_+_, _*_, _≤_}
 use lib.IntN.{ℤ}
 use lib.ListN.{length}
 use Rattle.offer_rules.specs.Numbers.{toNat, word}

@@ -4,7 +4,7 @@ use mathlib.Core.Bool.{Bool, true, false, not, cond, _||_}
 use mathlib.Core.List.{List}
 use Prim.Native.Nat.{ℕ, _≤_}
 use native.Mathlib.Omega.{arith}
-use lib.Dec.{T, ltb}
+use lib.Dec.{ltb}
 use lib.IntN.{ℤ}
 use Rattle.offer_rules.specs.Numbers.{draw, _then_}
 use Rattle.offer_rules.specs.Offer.{pairs, sum-of, lowest-price, highest-price, any-pair, out-of-range, is-priced-blank, non-blank-prices, rises, ramp-refused, proportion-refused, above-capacity, offer-number}

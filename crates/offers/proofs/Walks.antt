@@ -5,7 +5,7 @@ use mathlib.Core.List.{List, [], _∷_}
 use Prim.Native.Nat.{ℕ, zero, suc, _+_, _*_, _<_, _≤_}
 use native.Mathlib.Omega.{arith}
 use borrow.Author.Tests.{ltb-false, eqb-true, not-true}
-use lib.Dec.{T, eqb}
+use lib.Dec.{T}
 use lib.ListN.{length, getD, drop}
 use lib.Signed.{ltZ}
 use lib.IntN.{ℤ, pos, negsuc, natAbs, _+ℤ_, +ℤ-assoc, +ℤ-idl, +ℤ-idr}

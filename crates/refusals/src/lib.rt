@@ -1,8 +1,8 @@
 // Document 01, "Who draws which number": 5 to 9, 17 of a standing offer, and 18, from values that the book hands over.
 // A facility's capability is 17 words W0 to W16, an offer 23 words.
 ghost use mathlib.Core.Path.{_≡_};
-ghost use mathlib.Core.Bool.{cond, not, true, _&&_, _||_};
-ghost use mathlib.Core.Option.{none, some};
+ghost use mathlib.Core.Bool.{cond, true};
+ghost use mathlib.Core.Option.{some};
 ghost use Prim.Native.Nat.{_+_, _/_, _≤_, _<_, max};
 ghost use lib.IntN.{pos};
 ghost use lib.ListN.{length};

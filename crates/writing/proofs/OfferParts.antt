@@ -1,5 +1,5 @@
 -- An offer's number in two parts: 5, 9 and 10, and what it draws once it is admitted; and what its call then answers and leaves.
-use mathlib.Core.Path.{_≡_, refl, sym, _∙_}
+use mathlib.Core.Path.{_≡_, sym, _∙_}
 use mathlib.Core.Bool.{Bool, cond}
 use mathlib.Core.List.{List}
 use Prim.Native.Nat.{ℕ, zero, suc, _≤_}

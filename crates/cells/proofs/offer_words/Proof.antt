@@ -1,10 +1,8 @@
 use borrow.Author.Needs.{needs}
 use Rattle.cells.proofs.offer_words.Statement.{statement}
 use Rattle.cells.proofs.offer_words.Tie as tie
-use mathlib.Core.Path.{_≡_, ap, _∙_}
-use Prim.Native.Nat.{_+_, _-_}
 use native.Mathlib.Omega.{arith}
-use lib.ListN.{length, length-take, length-drop}
+use lib.ListN.{length-take, length-drop}
 use Rattle.cells.proofs.Holding.{offer-lent}
 
 add-result : tie.Need-add-result

@@ -1,7 +1,7 @@
 use borrow.Author.Needs.{needs}
 use Rattle.cells.proofs.pair_words.Statement.{statement}
 use Rattle.cells.proofs.pair_words.Tie as tie
-use mathlib.Core.Path.{_≡_, refl, ap, _∙_}
+use mathlib.Core.Path.{refl, ap, _∙_}
 use native.Mathlib.Omega.{arith}
 use lib.ListN.{length, drop, length-drop}
 use Rattle.cells.proofs.Holding.{tail-lent}

@@ -1,29 +1,19 @@
 use borrow.Author.Needs.{needs}
 use Rattle.judging.proofs.period_number.Statement.{statement}
 use Rattle.judging.proofs.period_number.Tie as tie
-use Rattle.judging.proofs.period_number.Reads as reads
-use Rattle.judging.proofs.period_number.Lts as lts
-use Rattle.judging.proofs.clock.Reads as clock-reads
-use Rattle.offers.proofs.is_period_refused.Reads as is-period-refused-reads
-use Rattle.refusals.proofs.draw_if.Reads as draw-if-reads
-use mathlib.Core.Path.{_≡_, refl, sym, _∙_, ap}
 use mir.Syntax.{w32}
 use mir.Facts.{toZ-ofZ}
 use Rattle.book_rules.specs.Refusals.{period-number}
 
--- src/lib.rt:117:39
 clock-requires : tie.Need-clock-requires
 clock-requires c κs = search needs
 
--- src/lib.rt:117:13
 is-period-refused-requires : tie.Need-is-period-refused-requires
 is-period-refused-requires c κs = search needs
 
--- src/lib.rt:117:5
 draw-if-requires : tie.Need-draw-if-requires
 draw-if-requires c κs = search needs
 
--- src/lib.rt:113:1
 returns : tie.Need-returns
 unfolding period-number
 returns c =

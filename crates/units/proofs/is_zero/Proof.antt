@@ -1,4 +1,3 @@
-use borrow.Author.Needs.{needs}
 use lib.IntN.{pos}
 use mir.Facts.{sfits-lit}
 use Rattle.units.proofs.Signs.{eqb-bits}

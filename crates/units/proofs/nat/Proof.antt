@@ -1,12 +1,10 @@
-use mathlib.Core.Path.{_≡_, _∙_, sym}
+use mathlib.Core.Path.{_≡_}
 use mathlib.Core.Bool.{false, true}
 use native.Mathlib.Omega.{arith}
 use borrow.Author.Needs.{needs}
-use lib.IntN.{pos, natAbs}
+use lib.IntN.{pos}
 use lib.Signed.{ltZ}
-use lib.Dec.{T}
 use mir.Facts.{toZ-ofZ, fits-natAbs}
-use mir.Syntax.{w32, w64}
 use Rattle.units.proofs.Counts.{neg-nat, pos-nonNeg, pos-nat, nat-below}
 use Rattle.units.proofs.nat.Statement.{statement}
 use Rattle.units.proofs.nat.Tie as tie

@@ -4,7 +4,6 @@ use Rattle.writing.proofs.file_capability.Tie as tie
 use mathlib.Core.Path.{_≡_, refl, sym, _∙_, ap, ap₂}
 use Prim.Native.Nat.{ℕ, _+_}
 use native.Mathlib.Omega.{arith}
-use Rattle.book_rules.specs.Record.{capability-in}
 use Rattle.book_rules.specs.Words.{part, put, facility-place}
 use Rattle.book_rules.specs.Refusals.{judge, capability-number}
 use Rattle.book_rules.specs.Book.{book-view}
