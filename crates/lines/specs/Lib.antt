@@ -1,0 +1,2 @@
+-- What is printed of an answer, and what putting it into lent bytes promises.
+pub mod Text
