@@ -7,6 +7,7 @@ ghost use lib.IntN.{natAbs};
 ghost use lib.ListN.{length, drop};
 ghost use lib.Signed.{mag};
 ghost use Rattle.io.specs.Counts.{Counts};
+ghost use Rattle.offer_rules.specs.Numbers.{word};
 ghost use Rattle.cells.specs.Meaning.{answer-of};
 ghost use Rattle.lines.specs.Text.{space, decimal, signed, spaced, text, line, whole, Put};
 use cells::Answer;
@@ -98,6 +99,12 @@ fn put_numbers(out: &mut [u8], number: u32, words: &[i32], sum: i64) -> usize
     put_byte(out, end, b'\n')
 }
 
+fn word_0(words: [i32; 24]) -> i32
+    ensures { λ r. ⌜ (r ≡ word words 0) × (mag r < 2147483648) ⌝ }
+{
+    words[0]
+}
+
 // "prints number, word 0, sum, parted by one space": the line at the start of what is lent, and its length.
 pub fn line_text(out: &mut [u8; 64], answer: Answer) -> usize
     ensures { λ r. ⌜ Counts r (now (out .exit)) ⌝ }
@@ -105,7 +112,7 @@ pub fn line_text(out: &mut [u8; 64], answer: Answer) -> usize
     ensures { λ r. ⌜ now (out .exit) ≡ line (answer-of answer) ++ drop r (now (out .entry)) ⌝ }
 {
     let words = answer.words;
-    let shown = [words[0]];
+    let shown = [word_0(words)];
     put_numbers(out, answer.number, &shown, answer.sum)
 }
 
