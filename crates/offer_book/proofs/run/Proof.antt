@@ -3,64 +3,19 @@ use lib.ListN.{length}
 use borrow.Author.Needs.{needs}
 use Rattle.offer_book.proofs.run.Statement.{statement}
 use Rattle.offer_book.proofs.run.Tie as tie
-use Rattle.offer_book.proofs.run.Reads as reads
-use Rattle.offer_book.proofs.run.Lts as lts
-use Rattle.offer_book.proofs.step.Reads as step-reads
-
-abbrev Inv-loop : tie.InvT-loop
-Inv-loop words₀ turns₀ words turns = length words ≡ length words₀
-
-abbrev μ-loop : tie.MeasureT-loop
-μ-loop words₀ turns₀ words turns = turns
-
--- src/main.rt:26:5
-loop-holds : tie.Need-loop-holds Inv-loop μ-loop
-loop-holds c = search needs
-
--- src/main.rt:26:24
-step-requires : tie.Need-step-requires Inv-loop μ-loop
-step-requires c κs = search needs
-
--- src/main.rt:27:9
-sub-turns : tie.Need-sub-turns Inv-loop μ-loop
-sub-turns c = search needs
-
--- src/main.rt:26:5
-loop-less : tie.Need-loop-less Inv-loop μ-loop
-loop-less c = search needs
-
--- src/main.rt:26:5
-loop-again : tie.Need-loop-again Inv-loop μ-loop
-loop-again c = search needs
-
--- src/main.rt:24:1
-same-length : tie.Need-same-length Inv-loop μ-loop
-same-length c = search needs
-
--- src/main.rt:24:1
-returns : tie.Need-returns Inv-loop μ-loop
-returns c = search needs
-
--- src/main.rt:24:1
-same-length-2 : tie.Need-same-length-2 Inv-loop μ-loop
-same-length-2 c = search needs
-
--- src/main.rt:24:1
-returns-2 : tie.Need-returns-2 Inv-loop μ-loop
-returns-2 c = search needs
 
 pub run-spec : {M : Type 1} → statement M
 run-spec =
     tie.close
     (tie.spec
-    Inv-loop
-    μ-loop
-    loop-holds
-    step-requires
-    sub-turns
-    loop-less
-    loop-again
-    same-length
-    returns
-    same-length-2
-    returns-2)
+    (λ words₀ turns₀ words turns. length words ≡ length words₀)
+    (λ words₀ turns₀ words turns. turns)
+    (λ c. search needs)
+    (λ c κs. search needs)
+    (λ c. search needs)
+    (λ c. search needs)
+    (λ c. search needs)
+    (λ c. search needs)
+    (λ c. search needs)
+    (λ c. search needs)
+    (λ c. search needs))
