@@ -34,7 +34,8 @@ module _ {A : Type 0} where
   }
 
   -- after the last turn
+  pub filled-all : (ws d : List A) (i : ℕ) → length ws ≤ i → length d ≤ i → take i ws ++ drop i d ≡ ws
+  filled-all ws d i hw hd = rw (take-all i ws, drop-of-length-le d) (append-nil ws)
+
   pub copied-all : {ws d to : List A} {i : ℕ} → Copied ws d i to → length ws ≤ i → to ≡ ws
-  copied-all {ws} {d} {to} {i} c h =
-      let k : length d ≤ i = omega arith in
-      c .so-far ∙ rw (take-all i ws, drop-of-length-le d) (append-nil ws)
+  copied-all {ws} {d} {to} {i} c h = c .so-far ∙ filled-all ws d i h (omega arith)

@@ -3,7 +3,7 @@ use Prim.Native.Nat.{_+_, _-_}
 use native.Mathlib.Omega.{arith}
 use lib.ListN.{length, take, drop, length-take}
 use borrow.Author.Needs.{needs}
-use Rattle.units.proofs.Copying.{copied-all}
+use Rattle.units.proofs.Copying.{filled-all}
 use Rattle.lines.specs.Text.{decimal}
 use Rattle.lines.proofs.DigitCount.{spelt}
 use Rattle.lines.proofs.Putting.{put-in-part}
@@ -21,7 +21,7 @@ filled c =
     let text = k .decimal .last .1 .0 in
     let lent = take ((s .args .at + n) - s .args .at) (drop (s .args .at) (s .args .out .now)) in
     c .copy .ensures .1
-    ∙ copied-all (take n text) lent (length (take n text)) (omega arith) (omega (arith, k .decimal .ensures .0 .1, length-take ((s .args .at + n) - s .args .at) (drop (s .args .at) (s .args .out .now))))
+    ∙ filled-all (take n text) lent (length (take n text)) (omega arith) (omega (arith, k .decimal .ensures .0 .1, length-take ((s .args .at + n) - s .args .at) (drop (s .args .at) (s .args .out .now))))
     ∙ k .decimal .ensures .1 .1
     ∙ spelt (s .args .n) n (k .decimal .ensures .1 .0) .1
 
