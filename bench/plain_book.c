@@ -35,6 +35,9 @@ static inline bool outside(int32_t n, int32_t low, int32_t high)
     return n < low || n > high;
 }
 
+/* generation or load */
+static inline bool is_kind(int32_t kind) { return !outside(kind, 1, 2); }
+
 static inline bool sizes_ok(int32_t facilities, int32_t services)
 {
     return facilities >= 1 && facilities <= 64 && (services == 1 || services == 5);
@@ -293,7 +296,7 @@ static int file_capability(const struct book *b, const uint8_t *r)
     int32_t *block = block_of(b, r[6]);
     const uint8_t *w = r + 32;
     int32_t kind = load(w);
-    if (outside(kind, 1, 2) || (!outside(block[0], 1, 2) && kind != block[0]))
+    if (!is_kind(kind) || (is_kind(block[0]) && kind != block[0]))
         return 8;
     for (int i = 1; i < 17; i++)
         if (outside(load(w + 4 * i), 0, i <= 6 ? 99999 : i <= 8 ? 9999 : i <= 11 ? 1000 : 1))
@@ -309,7 +312,7 @@ static int file_standing(const struct book *b, const uint8_t *r)
 {
     struct offer o;
     const int32_t *block = block_of(b, r[6]);
-    if (outside(block[0], 1, 2))
+    if (!is_kind(block[0]))
         return 5;
     if (block[12 + r[7]] != 1)
         return 9;
@@ -335,7 +338,7 @@ static int file_variation(const struct book *b, const uint8_t *r)
 {
     struct offer o;
     const int32_t *block = block_of(b, r[6]);
-    if (outside(block[0], 1, 2))
+    if (!is_kind(block[0]))
         return 5;
     if (block[12 + r[7]] != 1)
         return 9;
@@ -356,7 +359,7 @@ static int file_outage(const struct book *b, const uint8_t *r)
 {
     int32_t *block = block_of(b, r[6]);
     int32_t minute = load(r + 24), periods = load(r + 28);
-    if (outside(block[0], 1, 2))
+    if (!is_kind(block[0]))
         return 5;
     if (outside(minute, 0, b->now) || outside(periods, 1, block[0] == 2 ? 48 : 3))
         return 7;

@@ -119,7 +119,7 @@ fn offer_number(book: &[i32], f: usize, service: u8, reason: u8, offer: &[i32]) 
 }
 
 // 11 to 18 of a standing offer that is admitted: "A first one always passes the gate."
-pub fn standing_number(book: &[i32], f: usize, service: u8, slot: usize, offer: &[i32]) -> u8
+pub fn admitted_standing(book: &[i32], f: usize, service: u8, slot: usize, offer: &[i32]) -> u8
     requires { ⌜ Usable (now book) × (f < facilities-in (now book)) × (service < services-in (now book)) × (slot < 336) × (length (now offer) ≡ 23) ⌝ }
     ensures { λ r. ⌜ (r ≡ admitted-standing (book-view (now (book .entry))) f service slot (now (offer .entry))) × (r ≤ 18) ⌝ }
 {
@@ -197,7 +197,7 @@ fn gate_number(
 }
 
 // 11 to 17 of a variation that is admitted. Before closure, where most are filed, the offer in force is not looked up.
-pub fn variation_number(
+pub fn admitted_variation(
     book: &[i32],
     f: usize,
     service: u8,

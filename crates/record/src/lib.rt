@@ -10,8 +10,6 @@ ghost use Rattle.book_rules.specs.Record.{used, is-record, outside, any-stray, 
 ghost use Rattle.book_rules.specs.Record.{record-number, sizes-ok, record-test};
 ghost use Rattle.record.specs.Gaps.{any-set};
 use layout::facility;
-use layout::head;
-use layout::offer;
 use layout::fields::A;
 use layout::fields::B;
 use layout::fields::BYTES;
@@ -24,6 +22,8 @@ use layout::fields::REASON;
 use layout::fields::SERVICE;
 use layout::fields::W0;
 use layout::fields::ZERO;
+use layout::head;
+use layout::offer;
 use layout::refusal;
 use units::first;
 use units::nat;

@@ -18,18 +18,18 @@ use cells::store_window;
 use cells::store_word;
 use cells::store_words;
 use judging::admission_number;
+use judging::admitted_standing;
+use judging::admitted_variation;
 use judging::clock;
 use judging::facilities;
 use judging::kind_number;
 use judging::services;
-use judging::standing_number;
-use judging::variation_number;
 use judging::wide;
 use layout::cell;
 use layout::facility;
+use layout::fields;
 use layout::head;
 use layout::offer;
-use layout::fields;
 use layout::refusal;
 use layout::time;
 use offers::is_period_refused;
@@ -127,7 +127,7 @@ fn stand(book: &mut [i32], bytes: &[u8]) -> u8
     let slot = nat(word_at(bytes, fields::PERIOD)) as usize;
     let mut offer = [0i32; offer::WORDS];
     read_offer(bytes, &mut offer);
-    let number = standing_number(book, f, service, slot, &offer);
+    let number = admitted_standing(book, f, service, slot, &offer);
     file_offer(
         book,
         f,
@@ -164,7 +164,7 @@ fn vary(book: &mut [i32], bytes: &[u8]) -> u8
     let period = nat(word_at(bytes, fields::PERIOD)) as usize;
     let mut offer = [0i32; offer::WORDS];
     read_offer(bytes, &mut offer);
-    let number = variation_number(book, f, service, period, bytes[fields::REASON], &offer);
+    let number = admitted_variation(book, f, service, period, bytes[fields::REASON], &offer);
     file_offer(
         book,
         f,

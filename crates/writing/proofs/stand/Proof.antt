@@ -44,11 +44,11 @@ slice-aggregate-read-offer c = search needs
 read-offer-requires : tie.Need-read-offer-requires
 read-offer-requires c κs = search needs
 
-slice-aggregate-standing-number : tie.Need-slice-aggregate-standing-number
-slice-aggregate-standing-number c = search needs
+slice-aggregate-admitted-standing : tie.Need-slice-aggregate-admitted-standing
+slice-aggregate-admitted-standing c = search needs
 
-standing-number-requires : tie.Need-standing-number-requires
-standing-number-requires c κs =
+admitted-standing-requires : tie.Need-admitted-standing-requires
+admitted-standing-requires c κs =
     let s = c .before .before .before .before .before .before .before .before .before .before .before in
     rw (c .before .before .before .before .before .before .before .before .wide .ensures, count (c .before .before .before .before .before), c .before .before .before .read-offer .ensures)
     (s .pre .place .tested .usable, s .pre .place .facility-in, s .pre .place .service-in, slot-in s, length-offer (s .args .bytes .now))
@@ -68,7 +68,7 @@ same-length c = search needs
 returns : tie.Need-returns
 returns c =
     let x = c .before .file-offer in
-    let n = c .before .before .before .before .standing-number in
+    let n = c .before .before .before .before .admitted-standing in
     let o = c .before .before .before .before .before .before .before .before .read-offer in
     let p = c .before .before .before .before .before .before .before .before .before .before in
     let f = c .before .before .before .before .before .before .before .before .before .before .before .before .before .wide in
@@ -92,8 +92,8 @@ stand-spec =
     nat-requires
     slice-aggregate-read-offer
     read-offer-requires
-    slice-aggregate-standing-number
-    standing-number-requires
+    slice-aggregate-admitted-standing
+    admitted-standing-requires
     slice-aggregate-file-offer
     file-offer-requires
     same-length

@@ -47,14 +47,14 @@ slice-aggregate-read-offer c = search needs
 read-offer-requires : tie.Need-read-offer-requires
 read-offer-requires c κs = search needs
 
-shared-slice-read-variation-number : tie.Need-shared-slice-read-variation-number
-shared-slice-read-variation-number c = search needs
+shared-slice-read-admitted-variation : tie.Need-shared-slice-read-admitted-variation
+shared-slice-read-admitted-variation c = search needs
 
-slice-aggregate-variation-number : tie.Need-slice-aggregate-variation-number
-slice-aggregate-variation-number c = search needs
+slice-aggregate-admitted-variation : tie.Need-slice-aggregate-admitted-variation
+slice-aggregate-admitted-variation c = search needs
 
-variation-number-requires : tie.Need-variation-number-requires
-variation-number-requires c κs =
+admitted-variation-requires : tie.Need-admitted-variation-requires
+admitted-variation-requires c κs =
     let s = c .before .before .before .before .before .before .before .before .before .before .before .before in
     rw (c .before .before .before .before .before .before .before .before .before .wide .ensures, count (c .before .before .before .before .before .before), c .before .before .before .before .read-offer .ensures)
     (s .pre .place .tested .usable, s .pre .place .facility-in, s .pre .place .service-in, omega (arith, period-in s), length-offer (s .args .bytes .now))
@@ -80,7 +80,7 @@ same-length c = search needs
 returns : tie.Need-returns
 returns c =
     let x = c .before .file-offer in
-    let n = c .before .before .before .before .variation-number in
+    let n = c .before .before .before .before .admitted-variation in
     let o = c .before .before .before .before .before .before .before .before .before .read-offer in
     let p = c .before .before .before .before .before .before .before .before .before .before .before in
     let f = c .before .before .before .before .before .before .before .before .before .before .before .before .before .before .wide in
@@ -104,9 +104,9 @@ vary-spec =
     nat-requires
     slice-aggregate-read-offer
     read-offer-requires
-    shared-slice-read-variation-number
-    slice-aggregate-variation-number
-    variation-number-requires
+    shared-slice-read-admitted-variation
+    slice-aggregate-admitted-variation
+    admitted-variation-requires
     add-file-offer
     cast-file-offer
     slice-aggregate-file-offer

@@ -1,6 +1,6 @@
 use borrow.Author.Needs.{needs}
-use Rattle.judging.proofs.variation_number.Statement.{statement}
-use Rattle.judging.proofs.variation_number.Tie as tie
+use Rattle.judging.proofs.admitted_variation.Statement.{statement}
+use Rattle.judging.proofs.admitted_variation.Tie as tie
 use mathlib.Core.Path.{_≡_, sym, _∙_, ap}
 use mathlib.Core.Bool.{true}
 use Prim.Native.Nat.{ℕ}
@@ -80,8 +80,8 @@ returns-3 c =
       c .gate-number .ensures .1,
     )
 
-pub variation-number-spec : {M : Type 1} → statement M
-variation-number-spec =
+pub admitted-variation-spec : {M : Type 1} → statement M
+admitted-variation-spec =
     tie.close
     (tie.spec
     offer-number-requires

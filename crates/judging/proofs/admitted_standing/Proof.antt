@@ -1,6 +1,6 @@
 use borrow.Author.Needs.{needs}
-use Rattle.judging.proofs.standing_number.Statement.{statement}
-use Rattle.judging.proofs.standing_number.Tie as tie
+use Rattle.judging.proofs.admitted_standing.Statement.{statement}
+use Rattle.judging.proofs.admitted_standing.Tie as tie
 use mathlib.Core.Path.{_≡_, sym, _∙_, ap, ap₂}
 use mathlib.Core.List.{List}
 use mathlib.Core.Option.{Option, none, some}
@@ -92,8 +92,8 @@ returns-3 c =
       c .revision-number .ensures .1,
     )
 
-pub standing-number-spec : {M : Type 1} → statement M
-standing-number-spec =
+pub admitted-standing-spec : {M : Type 1} → statement M
+admitted-standing-spec =
     tie.close
     (tie.spec
     offer-number-requires
