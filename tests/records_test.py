@@ -1298,7 +1298,7 @@ class RefusalsPage(unittest.TestCase):
                 self.assertEqual('the ' + row[1].replace(', ', ' or ') if row[1] != 'any sender' else row[1], REFUSALS[int(row[0])].drawn_by)
 
     def test_its_words_are_the_tools(self):
-        """What a number means and what to correct; the page says more of 17 below its table."""
+        """What a number means and what to correct."""
         def ascii_of(text):
             for sign, plain in (('\u2264', '<='), ('\u2265', '>='), ('\u00b7', ' '), ('\u00b1', '+-')):
                 text = text.replace(sign, plain)
@@ -1306,9 +1306,6 @@ class RefusalsPage(unittest.TestCase):
         for row in self.rows:
             if len(row) == 5 and row[0].isdigit():
                 refusal, means = REFUSALS[int(row[0])], ascii_of(row[2])
-                if row[0] == '17':
-                    self.assertEqual(means, 'Gate closure: see below.')
-                    means = refusal.means if refusal.means.startswith('Gate closure: ') else means
                 self.assertEqual((refusal.means, refusal.correct), (means, ascii_of(row[3])))
 
     def test_reasons(self):

@@ -50,8 +50,8 @@ REFUSALS = {
     16: Refusal('above capacity', '', COORDINATOR,
                 "The total is above the generation or the combined maximum (energy), or above the service's own.", 'The quantities.'),
     17: Refusal('gate closed', '', COORDINATOR,
-                'Gate closure: less than 65 minutes are left. A variation: the reason given does not hold, or a price already offered changes.'
-                ' A standing offer: another is held.',
+                'Gate closure, less than 65 minutes left: a variation whose reason does not hold or that changes a price already offered,'
+                ' or a standing offer over a held one.',
                 'A variation: a reason that holds, and prices kept. A standing offer: wait until its next period has begun.'),
     18: Refusal('duplicate', 'the standing offer is the one that is held', COORDINATOR,
                 'The standing offer equals the one held: proportion, ramps and every pair.', 'Nothing; it is held.'),
