@@ -40,7 +40,7 @@ pub fn cell_place(
         + cell::WORDS * (((f * services + s) * 2 + half) * cell::SLOTS + slot)
 }
 
-// ---- a cell: write_cell encodes it, offer_words decodes it; nothing else knows the order of its words
+// ---- a cell: write_cell encodes it, is_stamped and offer_words decode it; nothing else knows the order of its words
 
 // "0 stamp (0 empty, 1 standing, P + 1 variation), 1 proportion, 2 ramp up, 3 ramp down, 4–23 pairs"
 fn write_cell(words: &mut [i32], stamp: u32, offer: &[i32])
