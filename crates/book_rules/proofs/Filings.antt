@@ -51,12 +51,12 @@ shown (variationK f s p) c = offer-words (held (variation-stamp p) c)
 -- ---- a cell written and read
 
 -- What is held under a stamp other than 0, which an empty cell has, is read back.
-held-back : (stamp : ℕ) (x : Option (List ℤ)) → (stamp ≡ 0 → ⊥) → held stamp (holding stamp x) ≡ x
+pub held-back : (stamp : ℕ) (x : Option (List ℤ)) → (stamp ≡ 0 → ⊥) → held stamp (holding stamp x) ≡ x
 unfolding held holding cell
 held-back stamp none n = rw (ne-eqb 0 stamp (λ z. n (sym z)))
 held-back stamp (some o) n = rw (eq-eqb stamp stamp refl)
 
-length-holding : (stamp : ℕ) (o : List ℤ) → length o ≡ 23 → length (holding stamp (variation-made o)) ≡ 24
+pub length-holding : (stamp : ℕ) (o : List ℤ) → length o ≡ 23 → length (holding stamp (variation-made o)) ≡ 24
 unfolding variation-made holding cell
 length-holding stamp o h = go (all-blank (pairs o))
   where
