@@ -168,6 +168,7 @@ fn file_variation(
     ensures { λ r. ⌜ (r ≡ number) × (now (book .exit) ≡ cond (eqb number 0) (file-variation (now (book .entry)) f service period (now (offer .entry))) (now (book .entry))) ⌝ }
 {
     let slot = period % SLOTS;
+    let stamp = (period + 1) as u32;
     if is_all_blank(offer) {
         let none = [0i32; offer::WORDS];
         return file_offer(
@@ -187,7 +188,7 @@ fn file_variation(
         service,
         cell::VARIATION_HALF,
         slot,
-        (period + 1) as u32,
+        stamp,
         offer,
         number,
     )
