@@ -31,6 +31,14 @@ installs() {
     fi
 }
 
+# Succeeds where nothing is installed, of which install.sh says $1.
+refuses() {
+    local words=$1
+    shift
+    if installs DESTDIR="$out/refused" "$@" 2>"$out/refused.txt"; then return 1; fi
+    grep -qF "$words" "$out/refused.txt" && [ ! -e "$out/refused" ]
+}
+
 # The flags as pkg-config gives them, and as the file's variables do where there is no pkg-config.
 flags_of_pkg_config() {
     local words
@@ -56,7 +64,7 @@ staged() {
     grep -qx 'prefix=/usr' "$out/stage/usr/lib/pkgconfig/bilzhaan.pc"
 }
 
-rm -rf "$prefix" "$out/stage" "$out/three_facilities"
+rm -rf "$prefix" "$out/stage" "$out/refused" "$out/three_facilities"
 check "make install" installs PREFIX="$prefix"
 flags=$(flags_of_file)
 if command -v pkg-config >/dev/null; then
@@ -66,6 +74,9 @@ fi
 check "the example from the installed copy" example
 check "make install under DESTDIR" installs PREFIX=/usr DESTDIR="$out/stage"
 check "the same files under DESTDIR, for the prefix without it" staged
+check "an empty PREFIX isn't taken for another" refuses "not an absolute path: ''" PREFIX=
+check "a PREFIX that isn't absolute is refused" refuses "not an absolute path: 'usr'" PREFIX=usr
+check "a PREFIX with a blank is refused" refuses "has a blank" PREFIX="/usr/a b"
 
 echo "$passed passed, $failed failed"
 [ "$failed" -eq 0 ]

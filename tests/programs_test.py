@@ -1,8 +1,10 @@
-"""The two programs, run: document 01's on its worked run and on vectors, and the replay of whole lists.
+"""The two programs, run: document 01's on its worked run and on vectors, and the replay of whole lists; and the command that
+proves the first and runs it, with a stand-in for the prover.
 
 Run after `rt ci` or `rt check offer_book replay`, which build them into target/bin/."""
 import os
 import subprocess
+import tempfile
 import unittest
 
 HERE = os.path.dirname(os.path.abspath(__file__))
@@ -36,6 +38,34 @@ class Vectors(unittest.TestCase):
         for name in ("one_service", "five_services", "every_byte"):
             with self.subTest(name):
                 self.assertEqual(run(REPLAY, read(VECTORS, name + ".in")), read(VECTORS, name + ".out"))
+
+
+class WorkedRun(unittest.TestCase):
+    """tools/worked-run.sh: the answers last on the screen, and none where the proof fails."""
+
+    def after(self, status):
+        """What it ends with where the prover says much and ends with this status."""
+        with tempfile.TemporaryDirectory() as folder:
+            rt = os.path.join(folder, "rt")
+            with open(rt, "w") as f:
+                f.write('#!/bin/sh\necho "prover: $*"\nseq 370\necho "last word" >&2\nexit %d\n' % status)
+            os.chmod(rt, 0o755)
+            environment = dict(os.environ, PATH=folder + os.pathsep + os.environ["PATH"])
+            return subprocess.run(
+                [os.path.join(ROOT, "tools", "worked-run.sh")], env=environment, stdout=subprocess.PIPE, stderr=subprocess.PIPE, timeout=60
+            )
+
+    def test_the_answers_are_last_and_the_provers_words_in_the_log(self):
+        ended = self.after(0)
+        self.assertEqual((ended.returncode, ended.stdout), (0, read(ROOT, "samples", "worked-run.txt")))
+        self.assertEqual(ended.stderr.count(b"\n"), 1)
+        log = read(ROOT, "target", "worked-run.log").splitlines()
+        self.assertEqual((log[0], len(log), log[-1]), (b"prover: check offer_book", 372, b"last word"))
+
+    def test_a_proof_that_fails_is_shown_and_nothing_is_answered(self):
+        ended = self.after(3)
+        self.assertEqual((ended.returncode, ended.stdout), (3, b""))
+        self.assertEqual(ended.stderr.splitlines()[-2:], [b"last word", b"offer_book is not proved"])
 
 
 class StandardInputAndOutput(unittest.TestCase):

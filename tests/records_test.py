@@ -443,6 +443,20 @@ class Writing(Tool):
         os.truncate(self.file, 224)
         self.assertIn('ends inside a line', self.refused(f'withdrawal --hex --append {self.file}'.split()))
 
+    def test_nothing_is_added_to_what_is_no_file_of_records(self):
+        for form, held in (('', b'0 0 0\n' * 56), ('', bytes(112)), ('--hex', b'decade\n'), ('--hex', b'00' * 112 + b'\n')):
+            with open(self.file, 'wb') as file:
+                file.write(held)
+            self.assertIn('does not start with a record', self.refused(f'withdrawal {form} --append {self.file}'.split()))
+            self.assertEqual(contents(self.file), held)
+        with open(self.file, 'wb') as file:
+            file.write(b'\n 53 4F4 2')
+        self.assertIn('does not hold lines', self.refused(f'withdrawal --hex --append {self.file}'.split()))
+        with open(self.file, 'wb') as file:
+            file.write(b'\n 53 4F 42\n')
+        self.made(f'withdrawal --hex --append {self.file}')
+        self.assertEqual(contents(self.file), b'\n 53 4F 42\n' + self.made('withdrawal --hex'))
+
     def test_an_empty_file_takes_either(self):
         for form in ('', '--hex'):
             open(self.file, 'wb').close()

@@ -130,7 +130,7 @@ $c11 tests/c/script*.c tests/c/listed_words.c tests/c/list_machine.c bench/plain
 
 run "$out/library_test"
 run "$out/vectors_test" tests/vectors
-run "$out/scripts_test" tests/vectors/*.txt
+run "$out/scripts_test" --every-number tests/vectors/*.txt
 check "the scripts are those that make.py makes" python3 tests/vectors/make.py --check "$out/scripts_test"
 status=0
 wait "$random" || status=$?

@@ -3,8 +3,12 @@
 # package is made. LIBRARY names a built library; else it is target/libbilzhaan.a, built first where it isn't there.
 set -euo pipefail
 
-prefix=${PREFIX:-/usr/local}
-case $prefix in /*) ;; *) echo "PREFIX is not an absolute path: $prefix" >&2; exit 2 ;; esac
+prefix=${PREFIX-/usr/local}
+case $prefix in
+*[[:space:]]*) echo "PREFIX has a blank, which parts a compiler's flags: '$prefix'" >&2; exit 2 ;;
+/*) ;;
+*) echo "PREFIX is not an absolute path: '$prefix'" >&2; exit 2 ;;
+esac
 [ -z "${LIBRARY:-}" ] || { [ -f "$LIBRARY" ] || { echo "no library at $LIBRARY" >&2; exit 2; }; library=$(realpath "$LIBRARY"); }
 cd "$(dirname "$0")/.."
 if [ -z "${library:-}" ]; then

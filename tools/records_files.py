@@ -4,7 +4,7 @@ import re
 
 from records_amounts import BadArgument
 from records_answers import read_answer
-from records_layout import LENGTH
+from records_layout import LENGTH, MARK
 from records_streams import BadStream, name_of_input, read_ends, read_input, write_file
 
 # Every cell of the largest book, 64 * 5 * 2 * 336, filed once, and more. A line of hex digits has two line ends at most.
@@ -18,8 +18,13 @@ def is_hex(data):
     return re.match(rb'\s*([0-9A-Fa-f]{2}\s*){3}', data) is not None
 
 
+def has_mark(start, as_hex):
+    """Whether a file that starts so starts with a record; hex digits are known to be such."""
+    return (bytes.fromhex(b''.join(start.split())[:6].decode()) if as_hex else start).startswith(MARK)
+
+
 def append_records(name, data, as_hex):
-    """A record after a torn one, or bytes after hex digits, would never be read as such."""
+    """A record after a torn one, bytes after hex digits, or either after other text, would never be read as such."""
     length = os.path.getsize(name) if os.path.isfile(name) else 0
     if length:
         start, end = read_ends(name, 64)
@@ -31,6 +36,8 @@ def append_records(name, data, as_hex):
             raise BadArgument(f'{name} holds lines of hex digits: nothing is added (--hex adds to it)')
         if not as_hex and length % LENGTH:
             raise BadArgument(f'{name} has {length} bytes, not whole records of {LENGTH}: nothing is added')
+        if not has_mark(start, as_hex):
+            raise BadArgument(f'{name} does not start with a record: nothing is added')
     write_file(name, data, 'ab')
 
 

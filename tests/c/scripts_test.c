@@ -1,5 +1,6 @@
 /* Runs the scripts of tests/vectors, and tests the reader on copies of them with wrong answers and on wrong lines.
- * Arguments: the files. `scripts_test --answers` reads a script without answers and prints it with them. */
+ * Arguments: the files; after --every-number they are to draw each number some times. `scripts_test --answers` reads a script
+ * without answers and prints it with them. */
 #include "script.h"
 #include "script_run.h"
 
@@ -180,13 +181,14 @@ static const char *name_of(const char *path)
 int main(int argc, char **argv)
 {
     if (argc < 2) {
-        fprintf(stderr, "usage: scripts_test FILE..., or scripts_test --answers <QUESTIONS\n");
+        fprintf(stderr, "usage: scripts_test [--every-number] FILE..., or scripts_test --answers <QUESTIONS\n");
         return 2;
     }
     if (strcmp(argv[1], "--answers") == 0)
         return answer_questions();
+    bool every_number = strcmp(argv[1], "--every-number") == 0;
     struct run all = {.shown = FAILURES_SHOWN};
-    for (int i = 1; i < argc; i++) {
+    for (int i = every_number ? 2 : 1; i < argc; i++) {
         FILE *file = fopen(argv[i], "rb");
         if (!file) {
             perror(argv[i]);
@@ -201,7 +203,7 @@ int main(int argc, char **argv)
     }
     test_lines();
     test_checksum();
-    for (int i = 0; i < NUMBERS; i++) {
+    for (int i = 0; every_number && i < NUMBERS; i++) {
         char what[64];
         snprintf(what, sizeof what, "number %d is drawn %d times or more", i, TIMES_DRAWN_AT_LEAST);
         check(all.drawn[i] >= TIMES_DRAWN_AT_LEAST, "the scripts", what);

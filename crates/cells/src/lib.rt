@@ -18,11 +18,8 @@ use layout::cell;
 use layout::facility;
 use layout::head;
 use layout::offer;
-use layout::time;
 use offers::sum_of;
 use units::copy_words;
-
-const SLOTS: usize = time::SLOTS as usize;
 
 // ---- places
 
@@ -40,10 +37,10 @@ pub fn cell_place(
 {
     head::WORDS
         + facility::WORDS * facilities
-        + cell::WORDS * (((f * services + s) * 2 + half) * SLOTS + slot)
+        + cell::WORDS * (((f * services + s) * 2 + half) * cell::SLOTS + slot)
 }
 
-// ---- a cell: write_cell encodes it, offer_words decodes it; nothing else knows the order of its words
+// ---- a cell: write_cell encodes it, is_stamped and offer_words decode it; nothing else knows the order of its words
 
 // "0 stamp (0 empty, 1 standing, P + 1 variation), 1 proportion, 2 ramp up, 3 ramp down, 4–23 pairs"
 fn write_cell(words: &mut [i32], stamp: u32, offer: &[i32])
@@ -164,7 +161,7 @@ pub fn in_force(
     requires { ⌜ Sized (now book) facilities services × (f < facilities) × (s < services) × (period < 2147483647) ⌝ }
     ensures { λ r. ⌜ (meaning (now (book .entry)) r ≡ in-force (book-view (now (book .entry))) f s period) × (end-of r ≤ length (now (book .entry))) ⌝ }
 {
-    let slot = period % SLOTS;
+    let slot = period % cell::SLOTS;
     let at = cell_place(facilities, services, f, s, cell::VARIATION_HALF, slot);
     let stamp = (period + 1) as u32;
     if is_stamped(book, at, stamp) {
@@ -247,7 +244,7 @@ fn found_at(book: &[i32], at: usize, kind: i32) -> Answer
     words[1] = offer[offer::PROPORTION];
     words[2] = offer[offer::RAMP_UP];
     words[3] = offer[offer::RAMP_DOWN];
-    copy_words(&mut words[4..], pair_words(book, at));
+    copy_words(&mut words[cell::PAIRS..], pair_words(book, at));
     let sum = total_quantity(book, at);
     Answer {
         number: 0,

@@ -1,5 +1,7 @@
 // "Then cells of 24 words, numbered ((f·S + s)·2 + h)·336 + slot, h 0 standing, 1 variation: 0 stamp (0 empty, 1 standing, P + 1 variation),
 // 1 proportion, 2 ramp up, 3 ramp down, 4–23 pairs." An offer's words follow the stamp.
+use crate::time;
+
 pub const STAMP: usize = 0;
 
 pub const OFFER: usize = 1;
@@ -7,6 +9,11 @@ pub const OFFER: usize = 1;
 pub const PAIRS: usize = 4;
 
 pub const WORDS: usize = 24;
+
+pub const SLOTS: usize = time::SLOTS as usize;
+
+// "16,128·F·S": the cells of a facility for one service, two halves of a cell for each slot.
+pub const SERVICE_WORDS: usize = 2 * SLOTS * WORDS;
 
 pub const STANDING_HALF: usize = 0;
 

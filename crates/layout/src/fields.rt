@@ -27,33 +27,8 @@ pub const W0: usize = 32;
 
 pub const BYTES: usize = 112;
 
-// Byte 5: the nine calls.
-pub const CLOCK_CALL: u8 = 1;
-
-pub const CAPABILITY_CALL: u8 = 2;
-
-pub const STANDING_CALL: u8 = 3;
-
-pub const VARIATION_CALL: u8 = 4;
-
-pub const OUTAGE_CALL: u8 = 5;
-
-pub const NOTICE_CALL: u8 = 6;
-
-pub const WITHDRAWAL_CALL: u8 = 7;
-
-pub const LOOK_UP_CALL: u8 = 8;
-
-pub const TOTAL_CALL: u8 = 9;
-
-// Byte 12: the reasons of an offer, of which 3 to 5 are the kinds of a notice.
-pub const SYNCHRONISATION: u8 = 1;
-
-pub const FORCED_OUTAGE: u8 = 2;
-
+// Byte 12: the first and the last kind of a notice, and the last reason. Where byte 5 or 12 selects, a match has the paper's numbers.
 pub const ENERGY_SURPLUS: u8 = 3;
-
-pub const SHORTFALL: u8 = 4;
 
 pub const SYSTEM_STATUS: u8 = 5;
 

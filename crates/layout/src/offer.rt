@@ -9,7 +9,4 @@ pub const PAIRS: usize = 3;
 
 pub const WORDS: usize = 23;
 
-// Ten pairs, and their price and quantity: 20 words.
 pub const PAIR_COUNT: usize = 10;
-
-pub const PAIR_WORDS: usize = 20;

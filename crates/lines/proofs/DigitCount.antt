@@ -11,7 +11,7 @@ use lib.Signed.{mag}
 use lib.ListN.{length, length-append}
 use borrow.Author.Tests.{ltb-true, ltb-false}
 use Rattle.io.specs.Digits.{digits, Fewest}
-use Rattle.lines.specs.Text.{count-from, digit-count, CountIsFewest, decimal, signed}
+use Rattle.lines.specs.Text.{count-from, digit-count, CountIsFewest, decimal, signed-decimal}
 
 counted : (tries k n : ℕ) → 1 ≤ k → (1 < k → 10 ^ (k - 1) ≤ n) → n < 10 ^ (k + tries) → Fewest 10 1 n (count-from tries k n)
 unfolding count-from
@@ -70,7 +70,7 @@ pub decimal-within : (n k : ℕ) → 1 ≤ k → n < 10 ^ k → length (decimal 
 unfolding CountIsFewest
 decimal-within n k one holds = rw length-decimal (no-more-than n k (digit-count n) one holds (count-is-fewest n))
 
-pub signed-within : (x : ℤ) (k : ℕ) → 1 ≤ k → mag x + 1 < 10 ^ k → length (signed x) ≤ k + 1
-unfolding signed
+pub signed-within : (x : ℤ) (k : ℕ) → 1 ≤ k → mag x + 1 < 10 ^ k → length (signed-decimal x) ≤ k + 1
+unfolding signed-decimal
 signed-within (pos n) k one holds = omega (arith, decimal-within n k one (omega arith))
 signed-within (negsuc n) k one holds = omega (arith, decimal-within (suc n) k one (omega arith))

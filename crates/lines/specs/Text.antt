@@ -37,14 +37,14 @@ unfoldable pub decimal : ℕ → List ℕ
 decimal n = digits 10 (digit-count n) n
 
 -- A negative number has a minus sign before its size.
-unfoldable pub signed : ℤ → List ℕ
-signed (pos n) = decimal n
-signed (negsuc n) = minus ∷ decimal (suc n)
+unfoldable pub signed-decimal : ℤ → List ℕ
+signed-decimal (pos n) = decimal n
+signed-decimal (negsuc n) = minus ∷ decimal (suc n)
 
 -- "parted by one space": each number after a space.
 unfoldable pub spaced : List ℤ → List ℕ
 spaced [] = []
-spaced (x ∷ rest) = space ∷ (signed x ++ spaced rest)
+spaced (x ∷ rest) = space ∷ (signed-decimal x ++ spaced rest)
 
 -- A number, words and a sum, and a line feed.
 unfoldable pub text : ℕ → List ℤ → ℤ → List ℕ
@@ -59,7 +59,7 @@ unfoldable pub whole : Answer → List ℕ
 whole a = text (a .number) (a .words) (a .sum)
 
 -- A text put into lent bytes from `at` on, and where it ends: the other bytes stay.
-pub record Put (text : List ℕ) (at : ℕ) (before after : List ℕ) (end : ℕ) : Type 0 where
-  pub end-is : end ≡ at + length text
-  pub bytes-are : after ≡ take at before ++ (text ++ drop end before)
+pub record Put (piece : List ℕ) (at : ℕ) (before after : List ℕ) (end : ℕ) : Type 0 where
+  pub end-is : end ≡ at + length piece
+  pub bytes-are : after ≡ take at before ++ (piece ++ drop end before)
   pub room-stays : length after ≡ length before

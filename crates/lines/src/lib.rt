@@ -9,7 +9,7 @@ ghost use lib.Signed.{mag};
 ghost use Rattle.io.specs.Counts.{Counts};
 ghost use Rattle.offer_rules.specs.Numbers.{word};
 ghost use Rattle.cells.specs.Meaning.{answer-of};
-ghost use Rattle.lines.specs.Text.{space, decimal, signed, spaced, text, line, whole, Put};
+ghost use Rattle.lines.specs.Text.{space, decimal, signed-decimal, spaced, text, line, whole, Put};
 use cells::Answer;
 
 fn put_byte(out: &mut [u8], at: usize, byte: u8) -> usize
@@ -42,8 +42,8 @@ fn size_of(x: i64) -> u64
 }
 
 fn put_signed(out: &mut [u8], at: usize, x: i64) -> usize
-    requires { ⌜ at + length (signed x) ≤ length (now out) ⌝ }
-    ensures { λ r. ⌜ Put (signed x) at (now (out .entry)) (now (out .exit)) r ⌝ }
+    requires { ⌜ at + length (signed-decimal x) ≤ length (now out) ⌝ }
+    ensures { λ r. ⌜ Put (signed-decimal x) at (now (out .entry)) (now (out .exit)) r ⌝ }
 {
     let size = size_of(x);
     if x < 0 {
@@ -54,8 +54,8 @@ fn put_signed(out: &mut [u8], at: usize, x: i64) -> usize
 }
 
 fn put_next(out: &mut [u8], at: usize, x: i64) -> usize
-    requires { ⌜ at + length (signed x) < length (now out) ⌝ }
-    ensures { λ r. ⌜ Put (space ∷ signed x) at (now (out .entry)) (now (out .exit)) r ⌝ }
+    requires { ⌜ at + length (signed-decimal x) < length (now out) ⌝ }
+    ensures { λ r. ⌜ Put (space ∷ signed-decimal x) at (now (out .entry)) (now (out .exit)) r ⌝ }
 {
     let end = put_byte(out, at, b' ');
     put_signed(out, end, x)

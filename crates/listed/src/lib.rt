@@ -8,10 +8,8 @@ ghost use lib.ListN.{length, drop};
 ghost use Rattle.book_rules.specs.Book.{book-answer, book-after, book-answers, book-run};
 ghost use Rattle.listed.specs.ListAnswered.{chopped, numbers-of, flat, ListAnswered};
 use book::call;
+use layout::fields;
 use opening::open;
-
-// "Exactly 112 bytes."
-const RECORD: usize = 112;
 
 // An answer's numbers: its number, 24 words, its sum.
 const NUMBERS: usize = 26;
@@ -36,7 +34,7 @@ fn long(x: i32) -> i64
     x as i64
 }
 
-fn write_words(out: &mut [i64], words: &[i32])
+fn widen_words(out: &mut [i64], words: &[i32])
     requires { ⌜ length (now out) ≡ length (now words) ⌝ }
     ensures { λ _. ⌜ now (out .exit) ≡ now (words .entry) ⌝ }
 {
@@ -51,7 +49,7 @@ fn write_numbers(out: &mut [i64], number: u32, words: &[i32], sum: i64)
     ensures { λ _. ⌜ now (out .exit) ≡ pos number ∷ (now (words .entry) ++ (sum ∷ [])) ⌝ }
 {
     out[0] = number as i64;
-    write_words(&mut out[1..25], words);
+    widen_words(&mut out[1..25], words);
     out[25] = sum;
 }
 
@@ -76,7 +74,7 @@ fn answer_records(words: &mut [i32], records: &[u8], answers: &mut [i64], count:
     for i in 0..count {
         answer_record(
             words,
-            &records[RECORD * i..RECORD * i + RECORD],
+            &records[fields::BYTES * i..fields::BYTES * i + fields::BYTES],
             &mut answers[NUMBERS * i..NUMBERS * i + NUMBERS],
         );
     }
@@ -98,7 +96,7 @@ pub fn answer_list(
     if 0 < number {
         return Listed { number, count: 0 };
     }
-    let count = smaller(records.len() / RECORD, answers.len() / NUMBERS);
+    let count = smaller(records.len() / fields::BYTES, answers.len() / NUMBERS);
     answer_records(words, records, answers, count);
     Listed { number, count }
 }

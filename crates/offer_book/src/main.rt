@@ -1,6 +1,7 @@
 // Document 01's program: records from standard input to its end, and for each its number, word 0 and sum.
 // Each answer is written before the next record is read.
 use book::call;
+use layout::fields;
 use libc::STDIN_FILENO;
 use libc::STDOUT_FILENO;
 use lines::print_line;
@@ -8,13 +9,13 @@ use opening::open;
 
 // One record, and whether to go on: a short one is the last, and a write that fails ends the run.
 fn step(words: &mut [i32]) -> bool {
-    let mut bytes = [0u8; 112];
+    let mut bytes = [0u8; fields::BYTES];
     let n = io::read_full(STDIN_FILENO, &mut bytes);
     if n == 0 {
         return false;
     }
     let written = print_line(STDOUT_FILENO, call(words, &bytes[..n]));
-    written & (n == 112)
+    written & (n == fields::BYTES)
 }
 
 // The loop counts down from a number of turns that no run uses up.

@@ -9,6 +9,7 @@ ghost use Rattle.offer_rules.specs.Numbers.{toNat, zeros};
 ghost use Rattle.book_rules.specs.Record.{sizes-ok};
 ghost use Rattle.book_rules.specs.Words.{book-size, is-book, limits-ok, opening-number};
 ghost use Rattle.book_rules.specs.Words.{empty-facility, empty-facilities, opening-head, opened, opening-words};
+use layout::cell;
 use layout::facility;
 use layout::head;
 use layout::refusal;
@@ -30,7 +31,7 @@ fn book_size(facilities: usize, services: usize) -> usize
     requires { ⌜ (facilities ≤ 64) × (services ≤ 5) ⌝ }
     ensures { λ r. ⌜ (r ≡ book-size facilities services) × (r ≤ 5163200) ⌝ }
 {
-    head::WORDS + facility::WORDS * facilities + 16128 * (facilities * services)
+    head::WORDS + facility::WORDS * facilities + cell::SERVICE_WORDS * (facilities * services)
 }
 
 // 20 "a limit beyond ±10,000,000, or not lowest ≤ 0 ≤ highest; 0 ≤ highest for services 1–4"

@@ -109,14 +109,14 @@ pub fn outage_number(clock: u64, capability: &[i32], minute: i32, count: i32) ->
 pub fn outage_first(minute: i32) -> i32
     ensures { λ r. ⌜ r ≡ pos (toNat minute / 30 + 1) ⌝ }
 {
-    (nat(minute) / 30 + 1) as i32
+    (nat(minute) / time::PERIOD_MINUTES + 1) as i32
 }
 
 pub fn outage_last(minute: i32, count: i32) -> i32
     requires { ⌜ toNat count ≤ 48 ⌝ }
     ensures { λ r. ⌜ r ≡ pos (toNat minute / 30 + toNat count) ⌝ }
 {
-    (nat(minute) / 30 + nat(count)) as i32
+    (nat(minute) / time::PERIOD_MINUTES + nat(count)) as i32
 }
 
 // "notice: reason not 3–5, or not 0 ≤ A ≤ B ≤ 40,000,000"

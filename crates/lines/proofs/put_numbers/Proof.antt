@@ -6,7 +6,7 @@ use mir.Syntax.{w64}
 use mir.Val.{toZ, ofZ}
 use mir.Facts.{toZ-ofZ}
 use borrow.Author.Needs.{needs}
-use Rattle.lines.specs.Text.{decimal, signed}
+use Rattle.lines.specs.Text.{decimal, signed-decimal}
 use Rattle.lines.proofs.DigitCount.{decimal-within, signed-within}
 use Rattle.lines.proofs.InTurn.{in-turn}
 use Rattle.lines.proofs.Putting.{put-after}
@@ -26,7 +26,7 @@ words-end c =
     let k = c .before .before .before .before in
     (omega (arith, c .put-words .ensures .1, number-ends k .0), c .put-words .ensures .0 .room-stays ∙ number-ends k .1)
 
-sum-within : (c : tie.Start) → length (signed (toZ w64 (ofZ w64 (c .args .sum)))) ≤ 20
+sum-within : (c : tie.Start) → length (signed-decimal (toZ w64 (ofZ w64 (c .args .sum)))) ≤ 20
 sum-within c = rw (toZ-ofZ (c .fits .sum)) (signed-within (c .args .sum) 19 (omega arith) (omega (arith, c .fits .sum .sfits)))
 
 sum-ends : (c : tie.After-put-next)

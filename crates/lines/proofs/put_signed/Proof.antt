@@ -6,7 +6,7 @@ use lib.IntN.{natAbs}
 use lib.ListN.{length}
 use mir.Facts.{toZ-ofZ}
 use borrow.Author.Needs.{needs}
-use Rattle.lines.specs.Text.{minus, decimal, signed}
+use Rattle.lines.specs.Text.{minus, decimal, signed-decimal}
 use Rattle.lines.proofs.Signs.{negative-text, positive-text}
 use Rattle.lines.proofs.Putting.{put-after}
 use Rattle.lines.proofs.put_signed.Statement.{statement}
@@ -15,12 +15,12 @@ use Rattle.lines.proofs.put_signed.Tie as tie
 sized : (c : tie.After-size-of) → c .size-of .result ≡ natAbs (c .before .before .args .x)
 sized c = c .size-of .ensures ∙ ap natAbs (toZ-ofZ (c .before .before .fits .x))
 
-negative : (c : tie.Then1) → signed (c .before .before .before .args .x) ≡ minus ∷ decimal (c .before .size-of .result)
+negative : (c : tie.Then1) → signed-decimal (c .before .before .before .args .x) ≡ minus ∷ decimal (c .before .size-of .result)
 negative c =
     let s = c .before .before .before in
     negative-text (s .args .x) (rw (toZ-ofZ (s .fits .x)) at (c .if1 .taken)) ∙ ap (λ (n : ℕ). minus ∷ decimal n) (sym (sized (c .before)))
 
-positive : (c : tie.Else1) → signed (c .before .before .before .args .x) ≡ decimal (c .before .size-of .result)
+positive : (c : tie.Else1) → signed-decimal (c .before .before .before .args .x) ≡ decimal (c .before .size-of .result)
 positive c =
     let s = c .before .before .before in
     positive-text (s .args .x) (rw (toZ-ofZ (s .fits .x)) at (c .if1 .left)) ∙ ap decimal (sym (sized (c .before)))

@@ -8,7 +8,7 @@ use mir.Val.{toZ, ofZ}
 use borrow.Author.Needs.{needs}
 use Rattle.offer_rules.specs.Numbers.{word}
 use Rattle.units.proofs.Counts.{word-back, long-back}
-use Rattle.lines.specs.Text.{signed, spaced, Put}
+use Rattle.lines.specs.Text.{signed-decimal, spaced, Put}
 use Rattle.lines.proofs.DigitCount.{signed-within}
 use Rattle.lines.proofs.InTurn.{one-word-more}
 use Rattle.lines.proofs.Putting.{put-after, put-none}
@@ -29,7 +29,7 @@ sent c =
     let s = c .before .before .before .before .before .before in
     long-back (c .long .result) (omega (arith, c .long .ensures .1)) ∙ c .long .ensures .0 ∙ word-back (word (s .args .words .now) (l .i)) (c .before .long-arg .given)
 
-within : (c : tie.After-long Inv-loop μ-loop) → length (signed (toZ w64 (ofZ w64 (c .long .result)))) ≤ 11
+within : (c : tie.After-long Inv-loop μ-loop) → length (signed-decimal (toZ w64 (ofZ w64 (c .long .result)))) ≤ 11
 within c =
     rw (long-back (c .long .result) (omega (arith, c .long .ensures .1)))
     (signed-within (c .long .result) 10 (omega arith) (omega (arith, c .long .ensures .1)))

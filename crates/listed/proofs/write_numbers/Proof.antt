@@ -16,17 +16,17 @@ cast-out c = search needs
 slice-set-from-out : tie.Need-slice-set-from-out
 slice-set-from-out c = search needs
 
-sub-write-words : tie.Need-sub-write-words
-sub-write-words c = search needs
+sub-widen-words : tie.Need-sub-widen-words
+sub-widen-words c = search needs
 
-part-write-words-start : tie.Need-part-write-words-start
-part-write-words-start c = search needs
+part-widen-words-start : tie.Need-part-widen-words-start
+part-widen-words-start c = search needs
 
-part-write-words-end : tie.Need-part-write-words-end
-part-write-words-end c = simp length-set (omega arith)
+part-widen-words-end : tie.Need-part-widen-words-end
+part-widen-words-end c = simp length-set (omega arith)
 
-write-words-requires : tie.Need-write-words-requires
-write-words-requires c κs = search needs
+widen-words-requires : tie.Need-widen-words-requires
+widen-words-requires c κs = search needs
 
 slice-set-from-sum : tie.Need-slice-set-from-sum
 slice-set-from-sum c =
@@ -42,7 +42,7 @@ returns : tie.Need-returns
 returns c =
     let s = c .before .before .before in
     let a = s .args in
-    rw (c .before .write-words .ensures, toZ-pos w64 {n = a .number} (omega arith), toZ-ofZ {w = w64} (s .fits .sum))
+    rw (c .before .widen-words .ensures, toZ-pos w64 {n = a .number} (omega arith), toZ-ofZ {w = w64} (s .fits .sum))
     (numbers-stored (a .out .now) (pos (a .number)) (a .sum) (a .words .now) (s .pre .0) (s .pre .1))
 
 pub write-numbers-spec : {M : Type 1} → statement M
@@ -51,10 +51,10 @@ write-numbers-spec =
     (tie.spec
     cast-out
     slice-set-from-out
-    sub-write-words
-    part-write-words-start
-    part-write-words-end
-    write-words-requires
+    sub-widen-words
+    part-widen-words-start
+    part-widen-words-end
+    widen-words-requires
     slice-set-from-sum
     same-length
     returns)

@@ -6,8 +6,8 @@ use lib.ListN.{length, getD}
 use borrow.Author.Needs.{needs}
 use Rattle.units.proofs.Counts.{word-back, long-back}
 use Rattle.units.proofs.Copying.{Copied, copy-more, copied-all}
-use Rattle.listed.proofs.write_words.Statement.{statement}
-use Rattle.listed.proofs.write_words.Tie as tie
+use Rattle.listed.proofs.widen_words.Statement.{statement}
+use Rattle.listed.proofs.widen_words.Tie as tie
 
 abbrev Inv-loop : tie.InvT-loop
 Inv-loop out₀ words n i₀ out i = Copied words out₀ i out × (n ≡ length words)
@@ -52,8 +52,8 @@ same-length c = omega arith
 returns : tie.Need-returns Inv-loop μ-loop
 returns c = copied-all (c .before .loop .inv .0) (omega arith)
 
-pub write-words-spec : {M : Type 1} → statement M
-write-words-spec =
+pub widen-words-spec : {M : Type 1} → statement M
+widen-words-spec =
     tie.close
     (tie.spec
     Inv-loop
