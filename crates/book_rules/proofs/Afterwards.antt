@@ -15,7 +15,7 @@ use Rattle.book_rules.specs.Record.{call-of, facility-of, service-of, pe
 use Rattle.book_rules.specs.Words.{part, put, book-size, book-mark, book-version, clock-place, cell-place, standing-half, variation-half, holding, standing-stamp, variation-stamp, is-book}
 use Rattle.book_rules.specs.Force.{Answer, plain, first-of, in-force, variation-made, will-stand}
 use Rattle.book_rules.specs.Refusals.{number, judge}
-use Rattle.book_rules.specs.Book.{facilities-in, services-in, held, write-cell, file-variation, book-view, book-accept, book-answer, book-after}
+use Rattle.book_rules.specs.Book.{facilities-in, services-in, held, write-cell, book-view, book-accept, book-answer, book-after}
 use Rattle.book_rules.specs.Claims.{is-accepted, StandsAfterwards}
 use Rattle.book_rules.proofs.Parts.{part-put, part-apart, word-before}
 use Rattle.book_rules.proofs.Calls.{named, variation-uses, length-offer}
@@ -76,8 +76,8 @@ module _ (w : List ℤ) (f s p : ℕ) (o : List ℤ) (room : book-size (faciliti
   unfolding in-force will-stand book-view
   stands-once-written =
       ap₂ (λ (m n : ℕ).
-          first-of (held (variation-stamp p) (part (cell-place m n f s variation-half (slot-of p)) 24 written))
-          (held standing-stamp (part (cell-place m n f s standing-half (slot-of p)) 24 written)))
+      first-of (held (variation-stamp p) (part (cell-place m n f s variation-half (slot-of p)) 24 written))
+      (held standing-stamp (part (cell-place m n f s standing-half (slot-of p)) 24 written)))
       (head-kept 2 (omega arith)) (head-kept 3 (omega arith))
       ∙ ap₂ first-of varied (ap (held standing-stamp) kept)
 

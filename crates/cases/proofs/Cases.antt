@@ -2,7 +2,6 @@
 use mathlib.Core.Path.{_≡_, refl, sym, _∙_, ap, ap₂}
 use mathlib.Core.Bool.{true, false}
 use mathlib.Core.List.{List, [], _∷_, map}
-use Prim.Native.Nat.{ℕ}
 use lib.ListN.{getD, List·getD-map}
 use Rattle.offer_rules.specs.Gate.{same-prices-to}
 use Rattle.cases.specs.Records.{_at_}

@@ -23,8 +23,8 @@ pub record Line : Type 0 where
   pub word-0 : ℤ
   pub sum : ℤ
 
-abbrev pub line : Answer → Line
-line a = record { number = a .number; word-0 = word (a .words) 0; sum = a .sum }
+abbrev pub line-of : Answer → Line
+line-of a = record { number = a .number; word-0 = word (a .words) 0; sum = a .sum }
 
 abbrev pub reads : ℕ → ℕ → ℕ → Line
 reads n w z = record { number = n; word-0 = pos w; sum = pos z }
@@ -36,7 +36,7 @@ pub record Case : Type 0 where
   pub answered : Line
 
 unfoldable pub answer-in : Case → Line
-answer-in c = line (book-answer (book-run fresh-book (c .before)) (c .last))
+answer-in c = line-of (book-answer (book-run fresh-book (c .before)) (c .last))
 
 -- The last call passes, or draws a number.
 abbrev passes : Line

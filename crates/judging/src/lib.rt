@@ -20,17 +20,15 @@ use gate::Grounds;
 use gate::Window;
 use gate::gate_refuses;
 use gate::is_before_closure;
+use layout::cell;
 use layout::facility;
 use layout::head;
 use layout::offer;
 use layout::refusal;
-use layout::time;
 use offers::is_all_blank;
 use refusals::draw_if;
 use refusals::first_drawn;
 use units::nat;
-
-const SLOTS: usize = time::SLOTS as usize;
 
 // ---- what the words and the bytes say
 
@@ -210,7 +208,7 @@ fn pairs_afterwards<'a>(
         services(book),
         f,
         wide(service),
-        period % SLOTS,
+        period % cell::SLOTS,
     );
     pairs_of(book, standing)
 }

@@ -36,7 +36,7 @@ module _ (w : List ℤ) (b : List ℕ) (t : Tested w b) (admission rest : ℕ) (
 
 -- 5, 9 and 10 of the offer that a record carries.
 abbrev pub admission-of : List ℤ → List ℕ → Bool → ℕ
-admission-of w b refused = admission-number (part (facility-place (facility-of b)) 17 w) (service-of b) refused
+admission-of w b is-refused = admission-number (part (facility-place (facility-of b)) 17 w) (service-of b) is-refused
 
 module _ (w : List ℤ) (b : List ℕ) where
   pub standing-parts : call-of b ≡ 3

@@ -31,7 +31,6 @@ use layout::fields;
 use layout::head;
 use layout::offer;
 use layout::refusal;
-use layout::time;
 use offers::is_all_blank;
 use offers::is_period_refused;
 use offers::is_slot_refused;
@@ -40,8 +39,6 @@ use record::read_offer;
 use record::word_at;
 use refusals::first_drawn;
 use units::nat;
-
-const SLOTS: usize = time::SLOTS as usize;
 
 // 6; files the minute.
 pub fn clock_call(book: &mut [i32], bytes: &[u8]) -> u8
@@ -167,7 +164,7 @@ fn file_variation(
     requires { ⌜ Usable (now book) × (f < facilities-in (now book)) × (service < services-in (now book)) × (period < 2147483647) × (length (now offer) ≡ 23) ⌝ }
     ensures { λ r. ⌜ (r ≡ number) × (now (book .exit) ≡ cond (eqb number 0) (file-variation (now (book .entry)) f service period (now (offer .entry))) (now (book .entry))) ⌝ }
 {
-    let slot = period % SLOTS;
+    let slot = period % cell::SLOTS;
     let stamp = (period + 1) as u32;
     if is_all_blank(offer) {
         let none = [0i32; offer::WORDS];

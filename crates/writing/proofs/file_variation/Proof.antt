@@ -1,13 +1,13 @@
 use borrow.Author.Needs.{needs}
 use Rattle.writing.proofs.file_variation.Statement.{statement}
 use Rattle.writing.proofs.file_variation.Tie as tie
-use mathlib.Core.Path.{_≡_, sym, _∙_, ap}
+use mathlib.Core.Path.{sym, _∙_, ap}
 use mathlib.Core.Bool.{cond}
 use mathlib.Core.List.{List}
 use lib.Dec.{eqb}
 use lib.IntN.{ℤ}
 use Rattle.offer_rules.specs.Time.{slot-of}
-use Rattle.book_rules.specs.Words.{variation-half, variation-stamp, cell, holding}
+use Rattle.book_rules.specs.Words.{variation-half, variation-stamp, cell}
 use Rattle.book_rules.specs.Book.{write-cell}
 use Rattle.writing.proofs.OfferParts.{empty-cell, stamped-cell}
 
@@ -16,6 +16,12 @@ abbrev filed : tie.Start → List ℤ → List ℤ
 filed s c =
     let w = s .args .book .now in
     cond (eqb (s .args .number) 0) (write-cell w (s .args .f) (s .args .service) variation-half (slot-of (s .args .period)) c) w
+
+add-stamp : tie.Need-add-stamp
+add-stamp c = search needs
+
+cast-stamp : tie.Need-cast-stamp
+cast-stamp c = search needs
 
 is-all-blank-requires : tie.Need-is-all-blank-requires
 is-all-blank-requires c κs = search needs
@@ -36,12 +42,6 @@ returns c =
     let x = c .before .file-offer in
     (x .ensures .0, x .ensures .1 ∙ ap (filed s) (empty-cell (variation-stamp (s .args .period)) (s .args .offer .now) (sym (blank .ensures) ∙ c .before .before .before .before .if1 .taken)))
 
-add-file-offer : tie.Need-add-file-offer
-add-file-offer c = search needs
-
-cast-file-offer : tie.Need-cast-file-offer
-cast-file-offer c = search needs
-
 file-offer-requires-2 : tie.Need-file-offer-requires-2
 file-offer-requires-2 c κs = search needs
 
@@ -59,13 +59,13 @@ pub file-variation-spec : {M : Type 1} → statement M
 file-variation-spec =
     tie.close
     (tie.spec
+    add-stamp
+    cast-stamp
     is-all-blank-requires
     slice-aggregate-file-offer
     file-offer-requires
     same-length
     returns
-    add-file-offer
-    cast-file-offer
     file-offer-requires-2
     same-length-2
     returns-2)
