@@ -48,7 +48,7 @@ in-force vw f s p = first-of (vw .variation f s p) (vw .standing f s (slot-of p)
 unfoldable pub variation-made : List ℤ → Option (List ℤ)
 variation-made o = cond (all-blank (pairs o)) none (some o)
 
--- "the offer that will stand afterwards" for (f, s, P), where a variation that carries o is filed; Afterwards in proofs/ shows that it does
+-- "the offer that will stand afterwards" for (f, s, P), once a variation that carries o is filed (Claims, StandsAfterwards)
 unfoldable pub will-stand : View → ℕ → ℕ → ℕ → List ℤ → InForce
 will-stand vw f s p o = first-of (variation-made o) (vw .standing f s (slot-of p))
 
