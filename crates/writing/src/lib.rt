@@ -164,6 +164,9 @@ fn file_variation(
     requires { ⌜ Usable (now book) × (f < facilities-in (now book)) × (service < services-in (now book)) × (period < 2147483647) × (length (now offer) ≡ 23) ⌝ }
     ensures { λ r. ⌜ (r ≡ number) × (now (book .exit) ≡ cond (eqb number 0) (file-variation (now (book .entry)) f service period (now (offer .entry))) (now (book .entry))) ⌝ }
 {
+    if number != 0 {
+        return number;
+    }
     let slot = period % cell::SLOTS;
     let stamp = (period + 1) as u32;
     if is_all_blank(offer) {
