@@ -125,7 +125,7 @@ static void damaged_near_gate(struct list *l, struct random *r, struct scene *sc
     set_both(l, block + 12 + (size_t)s, 1);
     int which = (int)between(r, 0, 3);
     if (which != 1)
-        damaged_offer(l, r, standing, 1);
+        damaged_offer(l, r, standing, one_in(r, 8) ? odd_value(r) : 1);
     if (which == 1)
         damaged_offer(l, r, variation, (int32_t)period + 1);
     if (which >= 2)
