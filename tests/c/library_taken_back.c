@@ -62,6 +62,20 @@ static void each_service(void)
     EQUAL(call(&b, total_of(BILZHAAN_PRIMARY_RESERVE, 100)).sum, 100);
 }
 
+/* A tenth of a MW in any pair is a variation, and nothing of it stays. */
+static void least_of_all(void)
+{
+    struct book b = usual_book(0);
+    for (int pair = 0; pair < 10; pair++) {
+        struct record r = taken_back(0);
+        set_pair(&r, pair, 5, 1);
+        EQUAL(number_of(&b, r), 0);
+        look_up_gives(&b, 0, 0, 100, 0, BILZHAAN_VARIATION_IN_FORCE, 1);
+        EQUAL(number_of(&b, taken_back(0)), 0);
+        CHECK(is_emptied(&b, 0, 0, 100));
+    }
+}
+
 /* The cell may hold the slot's variation of another week, and an earlier one of the period doesn't come back. */
 static void whatever_the_cell_held(void)
 {
@@ -226,6 +240,7 @@ static void damaged(void)
 void test_taken_back(void)
 {
     each_service();
+    least_of_all();
     whatever_the_cell_held();
     refused();
     reasons();
