@@ -236,8 +236,9 @@ static void print_counts(void)
     printf("\nvariations accepted inside gate closure by reason:");
     for (int i = 1; i <= 6; i++)
         printf(" %d:%ld", i, inside_gate[i]);
-    printf("\nvariations taken back with the gate open: %ld without a standing offer, %ld with one; inside gate closure: %ld, %ld; by reason:",
+    printf("\nvariations taken back, without a standing offer and with one: gate open %ld, %ld; inside gate closure %ld, %ld;",
            taken_back[0][0], taken_back[0][1], taken_back[1][0], taken_back[1][1]);
+    printf(" by reason");
     for (int i = 1; i <= 6; i++)
         printf(" %d:%ld", i, taken_back_inside[i]);
     printf("; refused with 17: %ld; on damaged books inside it: %ld", not_taken_back, taken_back_damaged);
