@@ -32,8 +32,8 @@
 
 /* ---- versions and sizes ---- */
 
-/* This header's version, 1.0.0: 10,000 times the first number, 100 times the second, and the third. */
-#define BILZHAAN_VERSION 10000
+/* This header's version, 1.1.0: 10,000 times the first number, 100 times the second, and the third. */
+#define BILZHAAN_VERSION 10100
 
 enum {
     BILZHAAN_BOOK_VERSION = 1,     /* head word 1 of the books that this version opens and reads */
