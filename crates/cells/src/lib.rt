@@ -24,7 +24,7 @@ use units::copy_words;
 // ---- places
 
 // "numbered ((f·S + s)·2 + h)·336 + slot, h 0 standing, 1 variation"
-pub fn cell_place(
+fn cell_place(
     facilities: usize,
     services: usize,
     f: usize,

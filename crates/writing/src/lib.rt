@@ -260,7 +260,12 @@ pub fn notice_call(book: &mut [i32], bytes: &[u8]) -> u8
     if number != 0 {
         return number;
     }
-    store_window(book, 2 * wide(kind) - 1, first, last);
+    store_window(
+        book,
+        head::ENERGY_SURPLUS + 2 * (wide(kind) - fields::ENERGY_SURPLUS as usize),
+        first,
+        last,
+    );
     0
 }
 

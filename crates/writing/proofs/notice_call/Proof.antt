@@ -2,12 +2,13 @@ use borrow.Author.Needs.{needs, sfits-of}
 use Rattle.writing.proofs.notice_call.Statement.{statement}
 use Rattle.writing.proofs.notice_call.Tie as tie
 use mathlib.Core.Path.{_≡_, sym, _∙_}
-use Prim.Native.Nat.{_≤_}
+use Prim.Native.Nat.{_+_, _*_, _-_, _≤_}
 use native.Mathlib.Omega.{arith}
 use mir.Val.{toZ, ofZ}
 use mir.Syntax.{w32}
 use mir.Facts.{toZ-ofZ}
 use Rattle.book_rules.specs.Record.{word-A, word-B, reason-of}
+use Rattle.book_rules.specs.Words.{notice-place}
 use Rattle.book_rules.specs.Refusals.{judge, notice-number}
 use Rattle.book_rules.specs.Book.{book-view}
 use Rattle.book_rules.proofs.Calls.{judge-notice}
@@ -58,11 +59,21 @@ returns c =
 wide-requires : tie.Need-wide-requires
 wide-requires c κs = search needs
 
-mul-store-window : tie.Need-mul-store-window
-mul-store-window c = omega (arith, kinds c)
+-- Its window is two words a kind, from kind 3 on.
+place : (c : tie.After-wide) → 5 + 2 * (c .wide .result - 3) ≡ notice-place (c .wide .result)
+place c = omega (arith, kinds c)
+
+cast-store-window : tie.Need-cast-store-window
+cast-store-window c = search needs
 
 sub-store-window : tie.Need-sub-store-window
 sub-store-window c = omega (arith, kinds c)
+
+mul-store-window : tie.Need-mul-store-window
+mul-store-window c = omega (arith, kinds c)
+
+add-store-window : tie.Need-add-store-window
+add-store-window c = omega (arith, kinds c)
 
 store-window-requires : tie.Need-store-window-requires
 store-window-requires c κs = omega (arith, kinds c)
@@ -78,7 +89,7 @@ returns-2 c =
     let b = s .args .bytes .now in
     filed w b (s .pre .0) 6 (s .pre .1) (omega arith) (drawn d ∙ c .before .before .before .before .if1 .left)
     (c .before .store-window .last .0)
-    (c .before .store-window .ensures ∙ rw (c .before .before .wide .ensures, first (d .before .before), last (d .before)) (sym (accept-notice w b (s .pre .1))))
+    (c .before .store-window .ensures ∙ rw (place (c .before .before), c .before .before .wide .ensures, first (d .before .before), last (d .before)) (sym (accept-notice w b (s .pre .1))))
 
 pub notice-call-spec : {M : Type 1} → statement M
 notice-call-spec =
@@ -90,8 +101,10 @@ notice-call-spec =
     notice-number-requires
     returns
     wide-requires
-    mul-store-window
+    cast-store-window
     sub-store-window
+    mul-store-window
+    add-store-window
     store-window-requires
     same-length
     returns-2)
