@@ -111,11 +111,11 @@ static int below(int n)
     return (int)((random_state >> 33) % (uint64_t)n);
 }
 
-/* No two scattered offers are for one cell. */
+/* No two scattered offers are for one cell. Variations are taken back at keys of their own. */
 static struct key {
     int f, s;
     int32_t period;
-} *energy_keys, *reserve_keys, *gate_keys;
+} *energy_keys, *reserve_keys, *gate_keys, *back_keys, *back_gate_keys;
 static struct key total_keys[TOTAL_KEYS], read_keys[TOTAL_KEYS * F]; /* standing offers of every facility */
 
 static struct key *distinct_keys(size_t count, int service, int services, int first, int periods)
@@ -264,6 +264,22 @@ static struct record inside_gate_for(struct key k, int step)
     return full_offer(BILZHAAN_CALL_VARIATION, k, BILZHAAN_REASON_SYNCHRONISATION, 0);
 }
 
+/* From the second time on nothing is left to take back, which takes the same steps. */
+static struct record taken_back_for(struct key k, int step)
+{
+    struct record r = variation_for(k, step);
+    for (int i = 0; i < (k.s == 0 ? 10 : 5); i++)
+        set_pair(&r, i, 0, 0);
+    return r;
+}
+
+static struct record taken_back_inside_for(struct key k, int step)
+{
+    struct record r = taken_back_for(k, step);
+    r.bytes[BILZHAAN_AT_REASON] = BILZHAAN_REASON_FORCED_OUTAGE;
+    return r;
+}
+
 static struct record last_tenths_differ_for(struct key k, int step)
 {
     struct record r = inside_gate_for(k, step);
@@ -287,9 +303,11 @@ static struct record last_byte_for(struct key k, int step)
 static void make_kinds(void)
 {
     size_t in_gate = keys < 256 ? keys : 256;
-    energy_keys = distinct_keys(keys, 0, 1, OPEN_PERIOD, 240);
+    energy_keys = distinct_keys(2 * keys, 0, 1, OPEN_PERIOD, 240);
+    back_keys = energy_keys + keys;
     reserve_keys = distinct_keys(keys, 1, 3, OPEN_PERIOD, 240);
-    gate_keys = distinct_keys(in_gate, 0, 4, FIRST_PERIOD, 2);
+    gate_keys = distinct_keys(2 * in_gate, 0, 4, FIRST_PERIOD, 2);
+    back_gate_keys = gate_keys + in_gate;
     for (int i = 0; i < TOTAL_KEYS; i++) {
         total_keys[i] = (struct key){0, below(4), READ_PERIOD + i};
         for (int f = 0; f < F; f++)
@@ -315,6 +333,8 @@ static void make_kinds(void)
     add_calls("4 variation, gate open, energy", 0, energy_keys, keys, 2, variation_for);
     add_calls("4 variation, gate open, reserve", 0, reserve_keys, keys, 2, variation_for);
     add_calls("4 variation, inside gate closure", 0, gate_keys, in_gate, 1, inside_gate_for);
+    add_calls("4 variation taken back, gate open", 0, back_keys, keys, 1, taken_back_for);
+    add_calls("4 variation taken back, inside gate closure", 0, back_gate_keys, in_gate, 1, taken_back_inside_for);
     add_calls("4 variation, last tenths differ", 17, gate_keys, in_gate, 1, last_tenths_differ_for);
     add_calls("4 variation, no such facility", 3, energy_keys, keys, 1, no_facility_for);
     add_calls("4 variation, period begun", 10, energy_keys, keys, 1, begun_for);
@@ -389,23 +409,31 @@ static void file(const struct subject *who, struct record r)
     }
 }
 
-/* The book that every kind starts from: capabilities, the clock, and the offers that are varied, repeated or read. */
+/* The book that every kind starts from: capabilities, the clock, outages, and the offers that are varied, taken back,
+ * repeated or read. */
 static void set_up(const struct subject *who)
 {
     struct key k = {0, 0, 0};
     if (who->open(who->words, BILZHAAN_BOOK_WORDS(F, S), F, S, limits) != 0)
         exit(1);
     file(who, clock_at(NOW));
-    for (k.f = 0; k.f < F; k.f++)
+    for (k.f = 0; k.f < F; k.f++) {
         file(who, capability_for(k, 0));
+        file(who, outage_for(k, 0));
+    }
     for (size_t i = 0; i < keys; i++) {
         file(who, standing_for(energy_keys[i], 1));
         file(who, standing_for(reserve_keys[i], 1));
+        file(who, standing_for(back_keys[i], 1));
         file(who, variation_for(energy_keys[i], 1));
         file(who, variation_for(reserve_keys[i], 1));
+        file(who, variation_for(back_keys[i], 0));
     }
-    for (size_t i = 0; i < (keys < 256 ? keys : 256); i++)
+    for (size_t i = 0; i < (keys < 256 ? keys : 256); i++) {
         file(who, inside_gate_for(gate_keys[i], 0));
+        file(who, standing_for(back_gate_keys[i], 0));
+        file(who, inside_gate_for(back_gate_keys[i], 0));
+    }
     for (int i = 0; i < TOTAL_KEYS * F; i++)
         file(who, standing_for(read_keys[i], 0));
 }

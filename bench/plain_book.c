@@ -1,4 +1,4 @@
-/* The offer book of document 01 over lent words, as one would write it in C for speed: direct indexing and early
+/* The offer book of documents 01 and 02 over lent words, as one would write it in C for speed: direct indexing and early
  * returns. It shares no code with the list machine of the tests. */
 #include "plain_book.h"
 
@@ -14,7 +14,8 @@ enum {
     SLOTS = 336
 };
 
-/* A record's offer as a cell holds it, with what the tests find on the way. */
+/* A record's offer as a cell holds it, with what the tests find on the way. Once they pass, quantities are 0 or more, so
+ * that a total of 0 is an offer of blanks alone. */
 struct offer {
     int32_t words[CELL_WORDS];
     int32_t total;
@@ -59,15 +60,18 @@ static inline int32_t *cell_of(const struct book *b, int f, int s, int variation
     return b->words + HEAD_WORDS + BLOCK_WORDS * b->facilities + cell * CELL_WORDS;
 }
 
+/* The standing cell of a slot if it holds an offer, or null. */
+static inline const int32_t *held_standing(const struct book *b, int f, int s, int slot)
+{
+    const int32_t *standing = cell_of(b, f, s, 0, slot);
+    return standing[0] == 1 ? standing : NULL;
+}
+
 /* The cell in force for a period from 0, or null. */
 static inline const int32_t *in_force(const struct book *b, int f, int s, int32_t period)
 {
-    int slot = period % SLOTS;
-    const int32_t *variation = cell_of(b, f, s, 1, slot);
-    if (variation[0] == period + 1)
-        return variation;
-    const int32_t *standing = cell_of(b, f, s, 0, slot);
-    return standing[0] == 1 ? standing : NULL;
+    const int32_t *variation = cell_of(b, f, s, 1, period % SLOTS);
+    return variation[0] == period + 1 ? variation : held_standing(b, f, s, period % SLOTS);
 }
 
 /* ---- the record: 2, 3, 4 ---- */
@@ -222,8 +226,11 @@ static inline int64_t counted(int32_t quantity)
     return quantity > 0 ? quantity : 0;
 }
 
+/* Of a cell, or of none. */
 static int64_t gate_total(const int32_t *cell)
 {
+    if (!cell)
+        return 0;
     int64_t total = 0;
     for (int i = 0; i < 10; i++)
         total += counted(cell[CELL_PAIRS + 2 * i + 1]);
@@ -266,18 +273,21 @@ static bool gate_refuses(const struct book *b, const uint8_t *r, int32_t period,
         return false;
     int s = r[7], reason = r[12];
     const int32_t *old = in_force(b, r[6], s, period);
-    int64_t old_total = old ? gate_total(old) : 0;
+    int64_t old_total = gate_total(old);
+    /* blanks alone take the variation back: what stands then is the standing offer, which may be damaged */
+    const int32_t *new = o->total != 0 ? o->words : held_standing(b, r[6], s, period % SLOTS);
+    int64_t new_total = o->total != 0 ? o->total : gate_total(new);
     const int32_t *notices = b->words + HEAD_NOTICES;
     bool holds = false;
     switch (reason) {
     case 1: holds = block[0] == 1; break;
     case 2: holds = block[0] == 1 && in_window(block + BLOCK_OUTAGE, period); break;
-    case 3: holds = s == 0 && in_window(notices, period) && o->total < old_total; break;
-    case 4: holds = in_window(notices + 2, period) && o->total > old_total; break;
-    case 5: holds = in_window(notices + 4, period) && o->total > old_total; break;
+    case 3: holds = s == 0 && in_window(notices, period) && new_total < old_total; break;
+    case 4: holds = in_window(notices + 2, period) && new_total > old_total; break;
+    case 5: holds = in_window(notices + 4, period) && new_total > old_total; break;
     case 6: holds = block[0] == 2 && in_window(block + BLOCK_OUTAGE, period); break;
     }
-    return !holds || (old && !same_prices(old, o->words));
+    return !holds || (old && new && !same_prices(old, new));
 }
 
 /* ---- the calls, each after 2, 3 and 4 ---- */
@@ -350,8 +360,13 @@ static int file_variation(const struct book *b, const uint8_t *r)
         return number;
     if (gate_refuses(b, r, period, block, &o))
         return 17;
+    int32_t *cell = cell_of(b, r[6], r[7], 1, period % SLOTS);
+    if (o.total == 0) {
+        memset(cell, 0, sizeof o.words);
+        return 0;
+    }
     o.words[0] = period + 1;
-    memcpy(cell_of(b, r[6], r[7], 1, period % SLOTS), o.words, sizeof o.words);
+    memcpy(cell, o.words, sizeof o.words);
     return 0;
 }
 

@@ -1,5 +1,5 @@
 /* A book for three facilities and five services: two generating sets and a load. It files offers, has some refused,
- * prints what each number means, and reads what is in force.
+ * prints what each number means, reads what is in force, and takes a variation back.
  *
  *     cc three_facilities.c $(pkg-config --cflags --libs bilzhaan) -o three_facilities */
 #include <bilzhaan_record.h>
@@ -120,5 +120,11 @@ int main(void)
     print_in_force("Steam set, energy", STEAM_SET, BILZHAAN_ENERGY, 25);
     print_total("Energy", BILZHAAN_ENERGY, 24);
     print_total("Primary reserve", BILZHAAN_PRIMARY_RESERVE, 24);
+
+    /* a variation without pairs doesn't mean 0.0 MW: the standing offer stands again */
+    bilzhaan_write_variation(record, &(struct bilzhaan_offer){
+        .facility = STEAM_SET, .service = BILZHAAN_ENERGY, .period = 24, .reason = BILZHAAN_REASON_FORCED_OUTAGE});
+    file("The steam set runs again, and its variation is taken back");
+    print_in_force("Steam set, energy", STEAM_SET, BILZHAAN_ENERGY, 24);
     return 0;
 }

@@ -1,4 +1,4 @@
-/* Bilzhaan for C99 and C++11: a half-hour offer book kept in words that the caller lends (document 01).
+/* Bilzhaan for C99 and C++11: a half-hour offer book kept in words that the caller lends (documents 01, 02).
  * The functions, their numbers and what they ask of the caller. Link with libbilzhaan.a, which is for x86-64 Linux.
  * bilzhaan_record.h has inline functions that write records, read answers and give each number's text. */
 #ifndef BILZHAAN_H
@@ -16,7 +16,7 @@
  * - It always returns. It reads the words and bytes that it is lent and no others, and writes only the words.
  * - Its work is bounded: by the pairs of an offer for filings and look-ups, by the facilities for a total, by the
  *   112 bytes for the record test, by BILZHAAN_BOOK_WORDS for the opening. Never by megawatts, minutes or periods.
- * - Whatever the words and bytes hold, the answer is the one that document 01 gives. A refused call returns zeros
+ * - Whatever the words and bytes hold, the answer is the one that the documents give. A refused call returns zeros
  *   beside its number and leaves every word as it was; a refused opening leaves every word as it was.
  * - Look-ups (8), totals (9) and whatever is refused store nothing: for them the words may lie in read-only memory.
  *
@@ -32,8 +32,8 @@
 
 /* ---- versions and sizes ---- */
 
-/* This header's version, 1.0.0: 10,000 times the first number, 100 times the second, and the third. */
-#define BILZHAAN_VERSION 10000
+/* This header's version, 1.1.0: 10,000 times the first number, 100 times the second, and the third. */
+#define BILZHAAN_VERSION 10100
 
 enum {
     BILZHAAN_BOOK_VERSION = 1,     /* head word 1 of the books that this version opens and reads */
@@ -75,7 +75,9 @@ enum {
     BILZHAAN_AT_W0 = 32          /* W0 to W19; in offers pair i is W(2i), cents per MWh, and W(2i + 1), tenths of a MW */
 };
 
-/* Byte 5, with what each call uses. Bytes that a call doesn't use are zero. */
+/* Byte 5, with what each call uses. Bytes that a call doesn't use are zero.
+ * A variation whose pairs are all blank takes the period's variation back, if there is one: the standing offer stands
+ * again. It doesn't mean 0.0 MW, which can't be filed for one period; the least is 0.1 MW. */
 enum {
     BILZHAAN_CALL_CLOCK = 1,      /* A the minute */
     BILZHAAN_CALL_CAPABILITY = 2, /* facility; W0 to W16 */

@@ -12,7 +12,8 @@ struct bilzhaan_pair {
     int32_t quantity; /* tenths of a MW; 0, and price 0, is a blank pair */
 };
 
-/* A standing offer or a variation. What the call or the service doesn't use stays 0, else the record draws 4. */
+/* A standing offer or a variation. What the call or the service doesn't use stays 0, else the record draws 4.
+ * A standing offer without pairs is one of 0.0 MW; a variation without pairs takes the period's variation back. */
 struct bilzhaan_offer {
     int32_t facility;
     int32_t service;
@@ -122,6 +123,8 @@ static inline void bilzhaan_write_standing(uint8_t record[BILZHAAN_RECORD_BYTES]
     bilzhaan_offer_(record, BILZHAAN_CALL_STANDING, offer);
 }
 
+/* Without pairs the variation that is held is taken back, and the standing offer stands again. That asks what any
+ * variation does: inside gate closure a reason, of a generation's reserve a proportion from 1. */
 static inline void bilzhaan_write_variation(uint8_t record[BILZHAAN_RECORD_BYTES], const struct bilzhaan_offer *offer)
 {
     bilzhaan_offer_(record, BILZHAAN_CALL_VARIATION, offer);

@@ -118,6 +118,12 @@ class BytesByHand(Tool):
             00000000 00000064''' + '00000000' * 18)
         self.assertEqual(self.made('variation --facility 0 --service 4 --period 4 --reason 6 --pairs 100@0'), want)
 
+    def test_variation_taken_back(self):
+        want = head('534f42 0001 04 05 00 00000154 02 00 0000 0000000f 00000000 00000000 00000000')
+        self.assertEqual(self.made('variation --facility 5 --service energy --period 340 --reason outage --ramp-up 15 --take-back'), want)
+        want = head('534f42 0001 04 00 03 00000004 00 00 0001 00000000 00000000 00000000 00000000')
+        self.assertEqual(self.made('variation --facility 0 --service contingency --period 4 --proportion 1 --take-back'), want)
+
     def test_outage(self):
         want = head('534f42 0001 05 02 00 00000000 00 00 0000 00000000 00000000 00000064 00000003')
         self.assertEqual(self.made('outage --facility 2 --minute 100 --periods 3'), want)
@@ -286,6 +292,14 @@ class BadArguments(Tool):
         ('variation --facility 0 --service energy --period 4 --pairs 1@1 --reason trip', "'trip' is no reason"),
         ('variation --facility 0 --service energy --period 0 --pairs 1@1', 'refuses this with 10'),
         ('variation --facility 0 --service energy --slot 4 --pairs 1@1', 'required: --period'),
+        ('variation --facility 0 --service energy --period 4', 'one of the arguments --pairs --mw --take-back is required'),
+        ('variation --facility 0 --service energy --period 4 --pairs 0@0', 'give --take-back for that'),
+        ('variation --facility 0 --service energy --period 4 --mw 0.0@0.00,0@0', 'the least that can be filed is 0.1 MW'),
+        ('variation --facility 0 --service primary --period 4 --proportion 5 --pairs 0@0 --anyway', 'the standing offer stands again'),
+        ('variation --facility 0 --service energy --period 4 --pairs 0@5', 'refuses this with 12'),
+        ('variation --facility 0 --service energy --period 4 --pairs 1@1 --take-back', 'not allowed with'),
+        ('variation --facility 0 --service energy --period 4 --reason 7 --take-back', 'refuses this with 11'),
+        (OFFER + '--take-back', 'required'),
         ('outage --facility 0 --minute 5 --periods 0', 'refuses this with 7'),
         ('outage --facility 0 --minute 5 --periods 49', 'refuses this with 7'),
         ('outage --facility 0 --minute -5 --periods 1', 'refuses this with 7'),
@@ -655,6 +669,19 @@ class Shown(Tool):
             text = self.rows(f'variation --facility 0 --service 0 --period {period} --pairs 1@1')['gate open']
             self.assertEqual(text.split(' (')[0], f'up to minute {opened[-1]}' if opened else 'at no minute; with a reason only')
 
+    def test_a_variation_taken_back(self):
+        for service, pairs in (('energy', 'pairs 1 to 10'), ('primary', 'pairs 1 to 5'), ('regulation', 'pairs 1 to 5')):
+            rows = self.rows(f'variation --facility 0 --service {service} --period 4 --reason outage --take-back')
+            self.assertEqual(rows['means'], 'takes the variation back: the standing offer stands again, if there is one; not 0.0 MW')
+            self.assertEqual(rows[pairs], 'blank')
+            self.assertNotIn('total', rows)
+            self.assertTrue(rows['made by'].endswith('--period 4 --reason outage --take-back'))
+        rows = self.rows('standing --facility 0 --service energy --slot 4 --pairs 0@0')
+        self.assertEqual((rows['total'], rows['made by']), ('0.0 MW', 'standing --facility 0 --service energy --slot 4 --pairs 0@0'))
+        self.assertNotIn('means', rows)
+        for pairs in ('1@0', '0@0,0@0,1@5', '0@5 --anyway'):
+            self.assertNotIn('means', self.rows(f'variation --facility 0 --service energy --period 4 --pairs {pairs}'))
+
     def test_what_any_book_refuses_is_said(self):
         rows = self.rows('standing --facility 0 --service energy --slot 4 --pairs 1@5000,1@4000 --anyway')
         self.assertEqual(rows['any book'], 'refuses it with 13 or a lower number: prices of non-blank pairs do not strictly rise')
@@ -850,6 +877,8 @@ class RoundTrip(Tool):
             named = {'facility': str(facility), 'service': f'{service} {names[service]}'}
             words, want = self.offer(service)
             self.check(['standing', *who, '--slot', str(slot), *words], {**named, **want, 'slot': str(slot)})
+            if want['total'] == '0.0 MW':
+                words, want = ['--take-back', *words[2:]], {label: text for label, text in want.items() if label != 'total'}
             self.check(['variation', *who, '--period', str(period), '--reason', str(reason), *words],
                        {**named, **want, 'period': str(period), 'reason': f'{reason} ' + ('no reason', 'synchronising profile', 'forced outage',
                         'energy surplus notice', 'shortfall notice', 'system status notice', 'outage of a load')[reason]})
@@ -936,7 +965,10 @@ class Answers(Tool):
                 ('0 2 300', 'answering a look-up: the variation is in force, 30.0 MW in all\nanswering a total: 2 facilities have an offer in force, 30.0 MW in all'),
                 ('0 3 999999', 'answering a total: 3 facilities have an offer in force, 99999.9 MW in all'),
                 ('0 1 700 --call look-up', 'the standing offer is in force, 70.0 MW in all'),
-                ('0 2 0 --call 8', 'the variation is in force, 0.0 MW in all'),
+                ('0 2 1 --call 8', 'the variation is in force, 0.1 MW in all'),
+                ('0 1 0 --call 8', 'the standing offer is in force, 0.0 MW in all'),
+                ('0 2 0 --call 8', 'the variation is in force, 0.0 MW in all; only a damaged book holds such a variation'),
+                ('0 2 0 --call 9', '2 facilities have an offer in force, 0.0 MW in all'),
                 ('0 1 300 --call total', '1 facility has an offer in force, 30.0 MW in all'),
                 ('0 0 0 --call total', '0 facilities have an offer in force, 0.0 MW in all'),
                 ('0 0 0 --call standing', 'accepted')):
@@ -1058,12 +1090,12 @@ class Brief(Tool):
         zeros = ' 0' * 16
         self.assertEqual(self.table(' then '.join(look_up + period for period in ('96', '97', '98', '99', '1000')), [
             '0 1 0 15 15 4000 500 5000 200' + zeros + ' 700', '0 2 0 15 15 -450000 99 4000 1200' + zeros + ' 1299',
-            '0 2' + ' 0' * 24, '19' + ' 0' * 25, '10' + ' 0' * 25]), [
+            '0 1' + ' 0' * 24, '19' + ' 0' * 25, '10' + ' 0' * 25]), [
                 'look-up, facility 2, energy',
                 'no.  period     day  time   in force       MW  pairs, MW @ $/MWh',
                 '  1      96   2 Wed  00:00  standing     70.0  50.0 @    40.00   20.0 @ 50.00',
                 '  2      97   2 Wed  00:30  variation   129.9   9.9 @ -4500.00  120.0 @ 40.00',
-                '  3      98   2 Wed  01:00  variation     0.0',
+                '  3      98   2 Wed  01:00  standing      0.0',
                 '  4      99   2 Wed  01:30  refused 19         nothing in force',
                 '  5    1000  20 Sun  20:00  refused 10         period refused: begun or past the horizon'])
 
@@ -1080,6 +1112,25 @@ class Brief(Tool):
             '  7  look-up                0  energy      340  7 Mon  02:00  refused 10        period refused: begun or past the horizon',
             '  8  clock                                      1 Tue  00:00  accepted',
             '  9  look-up                0  energy      340  7 Mon  02:00  standing    70.0  50.0 @ 40.00  20.0 @ 50.00'])
+
+    def test_a_variation_taken_back(self):
+        """It is no offer of 0.0 MW, and a look-up after it has the standing offer's pairs."""
+        varied, read_it = 'variation --facility 0 --service energy --period 4 ', 'look-up --facility 0 --service energy --period 4'
+        line = ' then '.join(('standing --facility 0 --service energy --slot 4 --pairs 500@4000', varied + '--pairs 300@4000', varied + '--take-back', read_it,
+                              varied + '--reason outage --take-back', 'standing --facility 0 --service energy --slot 5 --pairs 0@0'))
+        self.assertEqual(self.table(line, ['0 0 0', '0 0 0', '0 0 0', '0 1 500', '17 0 0', '0 0 0']), [
+            'facility 0, energy',
+            'no.  call            period    day  time   answer        MW  pairs, MW @ $/MWh',
+            '  1  standing offer  slot 4    Mon  02:00  accepted    50.0  50.0 @ 40.00',
+            '  2  variation            4  0 Mon  02:00  accepted    30.0  30.0 @ 40.00',
+            '  3  variation            4  0 Mon  02:00  accepted          takes the variation back: the standing offer stands again, if there is one',
+            '  4  look-up              4  0 Mon  02:00  standing    50.0  50.0 @ 40.00',
+            '  5  variation            4  0 Mon  02:00  refused 17        gate closed',
+            '  6  standing offer  slot 5    Mon  02:30  accepted     0.0'])
+        self.assertEqual(self.table(varied + '--take-back', None)[-1],
+                         '  1       4  0 Mon  02:00  takes the variation back: the standing offer stands again, if there is one')
+        damaged = self.table(varied + '--pairs 300@4000 then ' + varied + '--take-back then ' + read_it, ['0 0 0', '0 0 0', '0 2 300'])
+        self.assertTrue(damaged[-1].endswith('variation  30.0'))
 
     def test_calls_without_an_offer(self):
         line = ('outage --facility 1 --minute 100 --periods 3 then notice --kind shortfall --first 4 --last 9 then withdrawal'
@@ -1189,9 +1240,12 @@ class Vectors(Tool):
     def test_one_service(self):
         self.assertLessEqual({0, 2, 3, 4, 17}, self.check(self.lists('one_service')))
 
+    def test_variations_taken_back(self):
+        self.assertLessEqual({0, 14, 15, 17, 19}, self.check(self.lists('k1_calls')))
+
     def test_pairs_of_short_answers(self):
         """Told the first word and the sum alone, the pairs of the filings are those of the whole answer."""
-        for name, least in (('one_service', 100), ('five_services', 100)):
+        for name, least in (('one_service', 100), ('five_services', 100), ('k1_calls', 100)):
             seen = 0
             for _, items in itertools.groupby(self.numbered(name), lambda item: item[0]):
                 pieces, answers = zip(*((item[1], read_answer(item[4])) for item in items))
@@ -1205,6 +1259,7 @@ class Vectors(Tool):
     def test_program(self):
         self.check(self.program('program_31'))
         self.check(self.program('program_34'))
+        self.check(self.program('k1_program'))
 
 
 class Header(unittest.TestCase):
@@ -1289,8 +1344,8 @@ class Header(unittest.TestCase):
 
     def test_in_force(self):
         for name, text in (('STANDING_IN_FORCE', 'standing offer'), ('VARIATION_IN_FORCE', 'variation')):
-            answer = read_answer(f'0 {self.numbers[name]} 0')
-            self.assertEqual(explain_answer(answer, 8), [f'the {text} is in force, 0.0 MW in all'])
+            answer = read_answer(f'0 {self.numbers[name]} 7')
+            self.assertEqual(explain_answer(answer, 8), [f'the {text} is in force, 0.7 MW in all'])
 
 
 class RefusalsPage(unittest.TestCase):

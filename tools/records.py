@@ -36,7 +36,10 @@ def offer(options):
     for option, field in (('proportion', 'proportion'), ('ramp_up', 'ramp up'), ('ramp_down', 'ramp down')):
         if getattr(options, option) is not None and field not in fields:
             raise BadArgument(f"an offer for {name} has no {field}")
-    pairs = options.pairs if options.pairs is not None else options.mw
+    pairs = options.pairs if options.pairs is not None else options.mw or []
+    if options.command == 'variation' and not options.take_back and not any(value for pair in pairs for value in pair):
+        raise BadArgument('a variation of 0.0 MW takes the variation back, and the standing offer stands again: give --take-back for that; '
+                          'the least that can be filed is 0.1 MW')
     if len(pairs) > count:
         raise BadArgument(f'{len(pairs)} pairs, and an offer for {name} has {count}')
     return {'facility': options.facility, 'service': options.service, 'proportion': within(options.proportion or 0, 0, 65535, 'proportion'),

@@ -139,14 +139,17 @@ def add_output_options(parser):
     where.add_argument('--terminal', action='store_true', help='write bytes even to a terminal')
 
 
-def add_offer_options(parser):
+def add_offer_options(parser, is_variation):
     parser.add_argument('--proportion', type=proportion, action=Once, metavar='N', help='reserve proportion, thousandths or with %%; generation must give one')
     parser.add_argument('--ramp-up', type=ramp, action=Once, metavar='N', help='energy ramp-up rate, tenths of a MW per minute or with MW/min; 0 if left out')
     parser.add_argument('--ramp-down', type=ramp, action=Once, metavar='N', help='energy ramp-down rate, likewise')
     either = parser.add_mutually_exclusive_group(required=True)
     either.add_argument('--pairs', type=pairs, action=Once, metavar='T@C,..', help='pairs, tenths of a MW @ cents per MWh: 500@4000,200@5000')
     either.add_argument('--mw', type=mw_pairs, action=Once, metavar='MW@$,..', help='pairs, MW @ dollars per MWh: 50.0@40.00,20.0@50.00')
-    parser.epilog = 'Ten pairs at most for energy, five for reserve and regulation; the rest are blank. 0@0 is a blank pair, and alone an offer of nothing.'
+    if is_variation:
+        either.add_argument('--take-back', action='store_true', help='no pairs: takes the variation back, and the standing offer stands again')
+    alone = 'at least one is not: 0.0 MW cannot be filed for one period' if is_variation else 'alone an offer of 0.0 MW'
+    parser.epilog = f'Ten pairs at most for energy, five for reserve and regulation; the rest are blank.\n0@0 is a blank pair, and {alone}.'
 
 
 OPTIONS = {
@@ -165,7 +168,7 @@ COMMANDS = {
     'clock': ('call 1: sets the clock', ['--minute']),
     'capability': ('call 2: files what a facility can do', ['--facility']),
     'standing': ('call 3: files a standing offer for a slot of every week', ['--facility', '--service', '--slot']),
-    'variation': ('call 4: files a variation for one period', ['--facility', '--service', '--period']),
+    'variation': ('call 4: files a variation for one period, or takes it back', ['--facility', '--service', '--period']),
     'outage': ('call 5: reports a forced outage', ['--facility', '--minute', '--periods']),
     'notice': ('call 6: files an advisory notice', ['--first', '--last']),
     'withdrawal': ('call 7: withdraws the system status notice', []),
@@ -188,7 +191,7 @@ def add_call_options(name, parser):
         parser.add_argument('--kind', type=notice, action=Once, required=name == 'notice', metavar='KIND',
                             help='surplus, shortfall or status, or 3 to 5' + ('' if name == 'notice' else '; status if left out, and no other can be withdrawn'))
     if name in ('standing', 'variation'):
-        add_offer_options(parser)
+        add_offer_options(parser, name == 'variation')
     parser.add_argument('--anyway', action='store_true', help='make a record that any book refuses')
     add_output_options(parser)
 

@@ -3,8 +3,8 @@ What every line would repeat stands once above them; a refusal's words stand whe
 from collections import namedtuple
 
 from records_amounts import WEEKDAYS, show_mw, show_parts, show_time
-from records_explain import CALL_TEXTS, REASON_TEXTS, outage_window, used_offer
-from records_layout import CALLS, KINDS, LENGTH, NOTICES, SERVICES, SERVICE_TEXTS, pairs_of, read, record_test
+from records_explain import CALL_TEXTS, REASON_TEXTS, TAKES_BACK, outage_window, used_offer
+from records_layout import CALLS, KINDS, LENGTH, NOTICES, SERVICES, SERVICE_TEXTS, pairs_of, read, record_test, takes_back
 from records_refusals import REFUSALS, refusal_text
 
 # Texts of a line's cells, '' where there is nothing to say; `pairs` are (price, quantity), `text` what stands in their place.
@@ -38,6 +38,8 @@ def capability_text(w):
 
 def said(r):
     """What a record that carries no offer files."""
+    if takes_back(r):
+        return TAKES_BACK
     if r.call == 2:
         return capability_text(r.words)
     if r.call == 5:
@@ -55,7 +57,7 @@ def record_row(place, data):
     facility = str(r.facility) if r.call in (2, 3, 4, 5, 8) else ''
     service = (SERVICE_TEXTS[r.service] if r.service < 5 else str(r.service)) if r.call in (3, 4, 8, 9) else ''
     pairs, mw = [], ''
-    if r.call in (3, 4) and r.service < 5:
+    if r.call in (3, 4) and r.service < 5 and not takes_back(r):
         words = used_offer(r)[3]
         pairs, mw = pairs_of(words), show_parts(sum(words[1::2]), 1)
     return Row(place, CALL_TEXTS[r.call], facility, service, *when(r), '', mw, pairs, said(r))
@@ -102,8 +104,11 @@ class Filings:
         self.held = {}
 
     def take(self, r):
-        if r.call in (3, 4) and r.service < 5:
-            self.held[r.call, r.facility, r.service, r.period] = used_offer(r)[3]
+        place = (r.call, r.facility, r.service, r.period)
+        if takes_back(r):
+            self.held.pop(place, None)
+        elif r.call in (3, 4) and r.service < 5:
+            self.held[place] = used_offer(r)[3]
 
     def pairs(self, r, answer):
         """Those of the offer that a look-up says is in force; none if it was filed elsewhere."""

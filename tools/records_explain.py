@@ -3,9 +3,10 @@ from itertools import groupby
 
 from records_amounts import show_minute, show_mw, show_period, show_price, show_proportion, show_ramp, show_slot
 from records_layout import (CALLS, KINDS, LENGTH, NOTICES, REASONS, SERVICES, SERVICE_TEXTS, any_book_refuses, field_at, form_faults, offer_fields,
-                            pairs_of, read, record_test, stray_bytes)
+                            pairs_of, read, record_test, stray_bytes, takes_back)
 
 CALL_TEXTS = {1: 'clock', 2: 'capability', 3: 'standing offer', 4: 'variation', 5: 'outage', 6: 'notice', 7: 'withdrawal', 8: 'look-up', 9: 'total'}
+TAKES_BACK = 'takes the variation back: the standing offer stands again, if there is one'
 REASON_TEXTS = ('no reason', 'synchronising profile', 'forced outage', 'energy surplus notice', 'shortfall notice', 'system status notice', 'outage of a load')
 CAPABILITY = (
     ('max-generation', 'generation maximum', show_mw), ('max-combined', 'combined maximum', show_mw),
@@ -83,6 +84,8 @@ def field_rows(r):
         rows += [('reason', with_name(r.reason, REASON_TEXTS)), open_row(r.period)]
     if r.call in (3, 4) and r.service < 5:
         rows += offer_rows(r.service, *used_offer(r))
+    if takes_back(r):
+        rows[-1] = ('means', f'{TAKES_BACK}; not 0.0 MW')
     if r.call == 1:
         rows.append(('minute', show_minute(r.a)))
     if r.call == 2:
@@ -151,7 +154,7 @@ def offer_words(r):
     words = []
     for option, value in (('--proportion', r.proportion), ('--ramp-up', r.ramp_up), ('--ramp-down', r.ramp_down)):
         words += [option, str(value)] if value else []
-    return words + pairs_words(r.words)
+    return words + (['--take-back'] if takes_back(r) else pairs_words(r.words))
 
 
 def capability_words(w):

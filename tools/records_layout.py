@@ -56,6 +56,11 @@ def offer_fields(service):
     return (('proportion',) if service <= 3 else ()), 5
 
 
+def takes_back(r):
+    """Whether it is a variation whose pairs are all blank, which means: no variation. One with a price on a blank is refused."""
+    return r.call == 4 and r.service < 5 and not any(r.words[:2 * offer_fields(r.service)[1]])
+
+
 @lru_cache(maxsize=None)
 def used_bytes(call, service):
     fields, words = USES[call], 0

@@ -55,7 +55,8 @@ REFUSALS = {
                 'A variation: a reason that holds, and prices kept. A standing offer: wait until its next period has begun.'),
     18: Refusal('duplicate', 'the standing offer is the one that is held', COORDINATOR,
                 'The standing offer equals the one held: proportion, ramps and every pair.', 'Nothing; it is held.'),
-    19: Refusal('nothing in force', '', 'the reader', 'Look-up: no variation and no standing offer is in force.', 'Nothing; none was accepted.'),
+    19: Refusal('nothing in force', '', 'the reader', 'Look-up: no variation and no standing offer is in force.',
+                'Nothing; none was accepted, or the variation was taken back.'),
     20: Refusal('opening refused', 'F, S, words too few, or limits', HOST,
                 'Opening: F not 1 to 64, S not 1 or 5, too few words, a limit beyond +-100,000.00, not lowest <= 0 <= highest energy price,'
                 ' or a highest price of services 1 to 4 below 0. The record test gives it for F or S.', TELL),

@@ -8,6 +8,7 @@
 
 long passed, failed;
 long drawn[20], accepted[10], inside_gate[7], past_another_period;
+long taken_back[2][2], taken_back_inside[7], not_taken_back, taken_back_damaged;
 
 /* ---- reports ---- */
 
@@ -70,6 +71,11 @@ static void compare_record_test(struct list *l, struct random *r)
 
 /* ---- words ---- */
 
+static int64_t period_of(const uint8_t *b)
+{
+    return (int64_t)b[8] * 16777216 + b[9] * 65536 + b[10] * 256 + b[11];
+}
+
 bool same_words(const struct list *l)
 {
     return memcmp(l->library - GUARD, l->plain - GUARD, (l->needed + 2 * GUARD) * sizeof l->library[0]) == 0;
@@ -96,9 +102,8 @@ static bool only_that_cell(const struct list *l)
     const uint8_t *b = l->bytes;
     if (!usable_sizes(l))
         return false;
-    int64_t period = (int64_t)b[8] * 16777216 + b[9] * 65536 + b[10] * 256 + b[11];
     size_t cell = place_of_cell(f, s, b[BILZHAAN_AT_FACILITY], b[BILZHAAN_AT_SERVICE],
-                                b[BILZHAAN_AT_CALL] == BILZHAAN_CALL_VARIATION, period % 336);
+                                b[BILZHAAN_AT_CALL] == BILZHAAN_CALL_VARIATION, period_of(b) % 336);
     return cell + 24 <= l->needed
         && memcmp(l->library - GUARD, l->plain - GUARD, (cell + GUARD) * sizeof l->plain[0]) == 0
         && memcmp(l->library + cell + 24, l->plain + cell + 24, (l->needed + GUARD - cell - 24) * sizeof l->plain[0]) == 0;
@@ -117,13 +122,51 @@ static void compare_words_after(struct list *l, const struct bilzhaan_answer *a)
 
 /* ---- one call ---- */
 
+static bool offers_nothing(const uint8_t *b)
+{
+    for (int i = BILZHAAN_AT_W0; i < BILZHAAN_RECORD_BYTES; i++)
+        if (b[i] != 0)
+            return false;
+    return true;
+}
+
+/* A variation of blanks alone for a period that has one; the words are those before the call. */
+static bool takes_back(const struct list *l)
+{
+    const uint8_t *b = l->bytes;
+    int32_t f = l->plain[2], s = l->plain[3];
+    if (l->length != BILZHAAN_RECORD_BYTES || b[BILZHAAN_AT_CALL] != BILZHAAN_CALL_VARIATION || !offers_nothing(b)
+        || !usable_sizes(l) || b[BILZHAAN_AT_FACILITY] >= f || b[BILZHAAN_AT_SERVICE] >= s)
+        return false;
+    size_t cell = place_of_cell(f, s, b[BILZHAAN_AT_FACILITY], b[BILZHAAN_AT_SERVICE], 1, period_of(b) % 336);
+    return l->plain[cell] == period_of(b) + 1;
+}
+
+static void count_take_back(const struct list *l, const struct bilzhaan_answer *a, int64_t now)
+{
+    const uint8_t *b = l->bytes;
+    bool is_inside = 30 * period_of(b) - now < 65;
+    if (l->is_damaged) {
+        taken_back_damaged += a->number == 0 && is_inside;
+        return;
+    }
+    size_t standing = place_of_cell(l->facilities, l->services, b[BILZHAAN_AT_FACILITY], b[BILZHAAN_AT_SERVICE], 0,
+                                    period_of(b) % 336);
+    not_taken_back += a->number == BILZHAAN_GATE_CLOSED;
+    if (a->number != 0)
+        return;
+    taken_back[is_inside][l->plain[standing] == 1]++;
+    if (is_inside)
+        taken_back_inside[b[BILZHAAN_AT_REASON]]++;
+}
+
 static void count_call(const struct list *l, const struct bilzhaan_answer *a, int64_t now)
 {
     drawn[a->number]++;
     if (a->number != 0 || l->is_damaged)
         return;
     const uint8_t *b = l->bytes;
-    int64_t period = (int64_t)b[8] * 16777216 + b[9] * 65536 + b[10] * 256 + b[11];
+    int64_t period = period_of(b);
     accepted[b[BILZHAAN_AT_CALL]]++;
     if (b[BILZHAAN_AT_CALL] == BILZHAAN_CALL_VARIATION && 30 * period - now < 65)
         inside_gate[b[BILZHAAN_AT_REASON]]++;
@@ -142,6 +185,7 @@ void compared_call(struct list *l, struct random *r, const uint8_t *bytes, size_
     size_t every = l->needed / WORDS_COMPARED_EACH_CALL + 1;
     bool compare_words = random_bits(r) % every == 0;
     int64_t now = l->plain[4];
+    bool is_take_back = takes_back(l);
     if (compare_words && every > 1)
         check(l, same_words(l), "words differ after an earlier call of the list");
 
@@ -161,6 +205,9 @@ void compared_call(struct list *l, struct random *r, const uint8_t *bytes, size_
     if (compare_words)
         check(l, same_words(l), "words differ from the plain book's");
     compare_record_test(l, r);
-    if (!l->is_wrong)
-        count_call(l, &a, now);
+    if (l->is_wrong)
+        return;
+    count_call(l, &a, now);
+    if (is_take_back)
+        count_take_back(l, &a, now);
 }

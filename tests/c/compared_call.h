@@ -15,6 +15,9 @@ extern long drawn[20];           /* calls by the number that they drew */
 extern long accepted[10];        /* accepted calls by byte 5 */
 extern long inside_gate[7];      /* variations accepted inside gate closure, by reason */
 extern long past_another_period; /* look-ups where the variation cell held another period of the slot */
+/* Variations of blanks alone, where the period had a variation: accepted with the gate open (0) and inside it (1), each without
+ * a standing offer and with one to go back to; inside it by reason; refused with 17; accepted inside it on a damaged book. */
+extern long taken_back[2][2], taken_back_inside[7], not_taken_back, taken_back_damaged;
 
 /* One list: two books of the same words, one for the library and one for the plain book. */
 struct list {

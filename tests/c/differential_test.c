@@ -85,25 +85,51 @@ static void damage_word(struct list *l, struct random *r, const struct scene *sc
     }
 }
 
-/* Quantities that only a damaged book holds, in an offer near gate closure; then variations of it and readings. */
+/* An offer with quantities that only a damaged book holds. */
+static void damaged_offer(struct list *l, struct random *r, size_t cell, int32_t stamp)
+{
+    bool is_huge = one_in(r, 4);
+    set_both(l, cell, stamp);
+    for (int i = 0; i < 10; i++) {
+        int32_t quantity = one_in(r, 3) ? (int32_t)between(r, -60, 60) : one_in(r, 4) ? odd_value(r) : 0;
+        set_both(l, cell + 4 + 2 * (size_t)i, 100 * i + (int32_t)between(r, -60, 60));
+        set_both(l, cell + 5 + 2 * (size_t)i, is_huge ? (int32_t)between(r, INT32_MAX - 9, INT32_MAX) : quantity);
+    }
+}
+
+/* The other cell's offer, or nearly. */
+static void copied_offer(struct list *l, struct random *r, size_t cell, int32_t stamp, size_t from)
+{
+    set_both(l, cell, stamp);
+    for (size_t i = 1; i < 24; i++)
+        set_both(l, cell + i, l->plain[from + i]);
+    for (int64_t changes = between(r, 0, 2); changes > 0; changes--) {
+        size_t pair = cell + 5 + 2 * (size_t)between(r, 0, 9);
+        set_both(l, pair, one_in(r, 3) ? odd_value(r) : (int32_t)between(r, -60, 60));
+    }
+}
+
+/* Offers with damaged quantities near gate closure, in one of the two cells or in both; then variations and readings. */
 static void damaged_near_gate(struct list *l, struct random *r, struct scene *scene)
 {
     int64_t now = l->plain[4];
     if (now < 0 || now > 1000000000 || !usable_sizes(l))
         return;
     int f = scene->active[random_bits(r) % SCENE_FACILITIES] % scene->facilities;
-    int s = (int)between(r, 0, scene->services - 1), variation = (int)between(r, 0, 1);
+    int s = (int)between(r, 0, scene->services - 1);
     int64_t period = now / 30 + between(r, 1, 2);
     size_t block = 64 + 32 * (size_t)f;
-    size_t cell = place_of_cell(scene->facilities, scene->services, f, s, variation, period % 336);
+    size_t standing = place_of_cell(scene->facilities, scene->services, f, s, 0, period % 336);
+    size_t variation = place_of_cell(scene->facilities, scene->services, f, s, 1, period % 336);
     set_both(l, block, one_in(r, 6) ? odd_value(r) : (int32_t)between(r, 1, 2));
     set_both(l, block + 12 + (size_t)s, 1);
-    set_both(l, cell, variation ? (int32_t)period + 1 : 1);
-    for (int i = 0; i < 10; i++) {
-        int32_t quantity = one_in(r, 3) ? (int32_t)between(r, -60, 60) : one_in(r, 4) ? odd_value(r) : 0;
-        set_both(l, cell + 4 + 2 * (size_t)i, 100 * i + (int32_t)between(r, -60, 60));
-        set_both(l, cell + 5 + 2 * (size_t)i, quantity);
-    }
+    int which = (int)between(r, 0, 3);
+    if (which != 1)
+        damaged_offer(l, r, standing, one_in(r, 8) ? odd_value(r) : 1);
+    if (which == 1)
+        damaged_offer(l, r, variation, (int32_t)period + 1);
+    if (which >= 2)
+        copied_offer(l, r, variation, (int32_t)period + 1, standing);
     for (int i = 0; i < 6 && !l->is_wrong; i++) {
         struct record record = i == 0 ? look_up_of(f, s, (int32_t)period) : i == 1 ? total_of(s, (int32_t)period)
                                                                      : random_variation(r, scene, f, s, period);
@@ -210,6 +236,12 @@ static void print_counts(void)
     printf("\nvariations accepted inside gate closure by reason:");
     for (int i = 1; i <= 6; i++)
         printf(" %d:%ld", i, inside_gate[i]);
+    printf("\nvariations taken back, without a standing offer and with one: gate open %ld, %ld; inside gate closure %ld, %ld;",
+           taken_back[0][0], taken_back[0][1], taken_back[1][0], taken_back[1][1]);
+    printf(" by reason");
+    for (int i = 1; i <= 6; i++)
+        printf(" %d:%ld", i, taken_back_inside[i]);
+    printf("; refused with 17: %ld; on damaged books inside it: %ld", not_taken_back, taken_back_damaged);
     printf("\nlook-ups past a variation of another period of the slot: %ld\n", past_another_period);
     for (int i = 0; i < 20; i++)
         tried("number", i, drawn[i]);
@@ -218,6 +250,12 @@ static void print_counts(void)
     for (int i = 1; i <= 6; i++)
         tried("reason inside gate closure", i, inside_gate[i]);
     tried("another period of the slot", 0, past_another_period);
+    for (int i = 0; i < 4; i++)
+        tried("variation taken back", i, taken_back[i / 2][i % 2]);
+    for (int i = 1; i <= 6; i++)
+        tried("variation taken back inside gate closure, reason", i, taken_back_inside[i]);
+    tried("variation not taken back", 17, not_taken_back);
+    tried("variation taken back on a damaged book", 0, taken_back_damaged);
 }
 
 static double seconds_now(void)

@@ -164,12 +164,12 @@ static void tenth_by_tenth(void)
             set_pair(&r, places[k], tries[i].pairs[k][0], tries[i].pairs[k][1]);
         EQUAL(number_of(&b, r), tries[i].number);
     }
-    /* old is the offer in force: here the variation before, with total 0 */
+    /* old is the offer in force: here the variation before, of one tenth */
     open_usual(&b, 56);
     EQUAL(number_of(&b, stood(4, 500, 200)), 0);
     EQUAL(number_of(&b, varied(4, 1, 500, 100)), 0);
-    EQUAL(number_of(&b, offer_for(BILZHAAN_CALL_VARIATION, 0, 0, 4, 1)), 0);
-    EQUAL(number_of(&b, energy(BILZHAAN_CALL_VARIATION, 4, 1, 7000, 1, 8000, 1)), 0);
+    EQUAL(number_of(&b, varied(4, 1, 1, 0)), 0);
+    EQUAL(number_of(&b, energy(BILZHAAN_CALL_VARIATION, 4, 1, 4000, 1, 8000, 1)), 0);
     EQUAL(number_of(&b, varied(4, 1, 500, 200)), BILZHAAN_GATE_CLOSED);
 }
 

@@ -219,11 +219,12 @@ static void blanks_and_prices(void)
             set_pair(&r, second, -5000, 7);
             EQUAL(number_of(&b, r), first < second ? BILZHAAN_PRICES_DONT_RISE : 0);
         }
-    EQUAL(number_of(&b, offer_for(BILZHAAN_CALL_VARIATION, 0, 0, 100, 0)), 0); /* an all-blank offer is an offer */
-    struct bilzhaan_answer a = call(&b, look_up_of(0, 0, 100));
-    EQUAL(a.words[0], BILZHAAN_VARIATION_IN_FORCE);
+    EQUAL(number_of(&b, offer_for(BILZHAAN_CALL_STANDING, 0, 0, 101, 0)), 0); /* an all-blank standing offer is an offer */
+    struct bilzhaan_answer a = call(&b, look_up_of(0, 0, 101));
+    EQUAL(a.number, 0);
+    EQUAL(a.words[0], BILZHAAN_STANDING_IN_FORCE);
     EQUAL(a.sum, 0);
-    EQUAL(call(&b, total_of(0, 100)).words[0], 1);
+    EQUAL(call(&b, total_of(0, 101)).words[0], 1);
 }
 
 static void ramps_proportions_and_totals(void)

@@ -1,5 +1,5 @@
-/* Document 01's list machine, rule by rule in the paper's words and order; each quotation is from the paper.
- * Numbers stand as the paper prints them, so that a slip in the header's names can't hide here. */
+/* The list machine of documents 01 and 02, rule by rule in the papers' words and order; each quotation is from them.
+ * Numbers stand as the papers print them, so that a slip in the header's names can't hide here. */
 #include "list_machine.h"
 
 #include <stdbool.h>
@@ -40,6 +40,15 @@ static int64_t total_of_offer(rec r)
     for (int i = 0; i < 10; i++)
         total += quantity_of(r, i);
     return total;
+}
+
+/* "A pair with quantity 0 is blank": all ten are */
+static bool all_pairs_blank(rec r)
+{
+    for (int i = 0; i < 10; i++)
+        if (quantity_of(r, i) != 0)
+            return false;
+    return true;
 }
 
 static void use(bool used[112], int first, int last)
@@ -156,8 +165,12 @@ static rec newest_offer(const machine *m, int call, int f, int s, int64_t period
 /* "Standing: newest for (f, s, slot)." */
 static rec standing(const machine *m, int f, int s, int64_t slot) { return newest_offer(m, 3, f, s, slot); }
 
-/* "Variation: newest for (f, s, P), with P whole, not its slot." */
-static rec variation(const machine *m, int f, int s, int64_t period) { return newest_offer(m, 4, f, s, period); }
+/* "Variation: newest for (f, s, P), with P whole, not its slot." "a newest variation that is blank counts as none" */
+static rec variation(const machine *m, int f, int s, int64_t period)
+{
+    rec newest = newest_offer(m, 4, f, s, period);
+    return newest && !all_pairs_blank(newest) ? newest : NULL;
+}
 
 /* "Offer in force"; asked only for periods from 0 */
 static rec in_force(const machine *m, int f, int s, int64_t period)
@@ -167,6 +180,9 @@ static rec in_force(const machine *m, int f, int s, int64_t period)
 }
 
 /* ---- "Gate" ---- */
+
+/* "none has total 0" */
+static int64_t gate_total(rec r) { return r ? total_of_offer(r) : 0; }
 
 /* "the n-th tenth of a MW, counted up through the pairs" */
 static int64_t price_of_tenth(rec r, int64_t n)
@@ -184,22 +200,20 @@ static int64_t price_of_tenth(rec r, int64_t n)
 /* "for every n from 1 to the smaller total, the n-th tenth of a MW .. has the same price in old and new" */
 static bool same_prices(rec old, rec new)
 {
-    if (!old) /* "none has total 0" */
-        return true;
-    int64_t old_total = total_of_offer(old);
-    int64_t new_total = total_of_offer(new);
+    int64_t old_total = gate_total(old);
+    int64_t new_total = gate_total(new);
     for (int64_t n = 1; n <= old_total && n <= new_total; n++)
         if (price_of_tenth(old, n) != price_of_tenth(new, n))
             return false;
     return true;
 }
 
-static bool reason_holds(const machine *m, rec r, rec old)
+static bool reason_holds(const machine *m, rec r, rec old, rec new)
 {
     int f = facility_of(r);
     int64_t period = period_of(r);
-    int64_t old_total = old ? total_of_offer(old) : 0;
-    int64_t new_total = total_of_offer(r);
+    int64_t old_total = gate_total(old);
+    int64_t new_total = gate_total(new);
     switch (reason_of(r)) {
     case 1: /* "generation (synchronising profile)" */
         return kind(m, f) == 1;
@@ -217,13 +231,22 @@ static bool reason_holds(const machine *m, rec r, rec old)
     return false; /* "Inside that it needs a reason" */
 }
 
+/* "The gate compares old with the offer that will stand afterwards." "An accepted variation whose pairs are all blank
+ * now means: no variation." */
+static rec stands_afterwards(const machine *m, rec r)
+{
+    return all_pairs_blank(r) ? standing(m, facility_of(r), service_of(r), period_of(r) % 336) : r;
+}
+
 static bool variation_passes_gate(const machine *m, rec r)
 {
     /* "A variation is open when 30·P − now is 65 or more." */
     if (30 * period_of(r) - now(m) >= 65)
         return true;
+    /* "Old is the offer in force before the call" */
     rec old = in_force(m, facility_of(r), service_of(r), period_of(r));
-    return reason_holds(m, r, old) && same_prices(old, r);
+    rec new = stands_afterwards(m, r);
+    return reason_holds(m, r, old, new) && same_prices(old, new);
 }
 
 /* "A standing offer over a held one (stamp 1) is refused inside 65 minutes of the slot's next period not yet begun,

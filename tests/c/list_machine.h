@@ -1,4 +1,4 @@
-/* Document 01's list machine: the opening's sizes and limits, and a list of accepted records. It has no table.
+/* The list machine of documents 01 and 02: the opening's sizes and limits, and a list of accepted records. It has no table.
  * A model to compare answers with; it is slow on purpose and allocates as the list grows. */
 #ifndef BILZHAAN_TESTS_LIST_MACHINE_H
 #define BILZHAAN_TESTS_LIST_MACHINE_H

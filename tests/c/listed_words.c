@@ -1,7 +1,8 @@
 /* The opening's number and words, and then the words of each accepted call, oldest first; quotations are from
- * document 01. */
+ * documents 01 and 02. */
 #include "listed_words.h"
 
+#include <stdbool.h>
 #include <string.h>
 
 static int32_t word_at(const uint8_t *r, int at)
@@ -46,6 +47,15 @@ static void opened(const struct list_machine *m, int32_t *words)
         words[64 + 32 * f + 17] = 1;
 }
 
+/* The offer has a quantity. */
+static bool offers_any(const uint8_t *r)
+{
+    for (int i = 0; i < 10; i++)
+        if (word_at(r, 36 + 8 * i) != 0)
+            return true;
+    return false;
+}
+
 /* "cells of 24 words, numbered ((f·S + s)·2 + h)·336 + slot": "0 stamp ..., 1 proportion, 2 ramp up, 3 ramp down,
  * 4–23 pairs" */
 static void put_offer(const struct list_machine *m, int32_t *words, const uint8_t *r)
@@ -54,6 +64,10 @@ static void put_offer(const struct list_machine *m, int32_t *words, const uint8_
     size_t h = r[5] == 4 ? 1 : 0;
     size_t number = (((size_t)r[6] * (size_t)m->services + r[7]) * 2 + h) * 336 + (size_t)(period % 336);
     int32_t *cell = words + 64 + 32 * (size_t)m->facilities + 24 * number;
+    if (h && !offers_any(r)) { /* "Its cell becomes 24 zeros." */
+        memset(cell, 0, 24 * sizeof cell[0]);
+        return;
+    }
     cell[0] = h ? period + 1 : 1;
     cell[1] = r[14] * 256 + r[15];
     cell[2] = word_at(r, 16);

@@ -1,4 +1,4 @@
-/* The book's words that a list of accepted calls makes (document 01, "The book's words"), from the list machine's list,
+/* The book's words that a list of accepted calls makes (document 01, "The book's words"; document 02), from the list machine's list,
  * and the opening's number, which the list machine has no part in. It shares no code with either book. */
 #ifndef BILZHAAN_TESTS_LISTED_WORDS_H
 #define BILZHAAN_TESTS_LISTED_WORDS_H

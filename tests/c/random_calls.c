@@ -300,6 +300,8 @@ static struct record offer_at(struct random *r, struct scene *scene, int which, 
     int reason = which == BILZHAAN_CALL_VARIATION ? some_reason(r, scene, f, s, period) : 0;
     struct record record = offer_for(which, f, s, (int32_t)period, reason);
     const int32_t *held = held_for(scene, f, s, filed_for);
+    if (held && which == BILZHAAN_CALL_VARIATION && one_in(r, 3) && cell_of(scene, f, s, 0, period % 336)[0] == 1)
+        held = cell_of(scene, f, s, 0, period % 336);
     if (which == BILZHAAN_CALL_STANDING && period >= 0 && period < 336 && cell_of(scene, f, s, 0, period)[0] == 1)
         held = cell_of(scene, f, s, 0, period);
     if (held && one_in(r, which == BILZHAAN_CALL_STANDING ? 3 : 8)) {
@@ -321,13 +323,70 @@ static struct record offer_at(struct random *r, struct scene *scene, int which, 
 
 static struct record some_offer(struct random *r, struct scene *scene, int which)
 {
+    unsigned key = (unsigned)(random_bits(r) % SCENE_KEYS);
+    int key_f = scene->keys[key].facility, key_s = scene->keys[key].service;
+    if (one_in(r, 4) && key_f < scene->facilities && key_s < scene->services) /* where an offer was filed before */
+        return offer_at(r, scene, which, key_f, key_s, not_begun(scene, scene->keys[key].period));
     int f = some_facility(r, scene), s = some_service(r, scene, f);
     return offer_at(r, scene, which, f, s, some_period(r, scene));
 }
 
+/* ---- variations taken back ---- */
+
+static int64_t counted_in_gate(const int32_t *cell)
+{
+    int64_t total = 0;
+    for (int i = 0; i < 10; i++)
+        total += cell[5 + 2 * i] > 0 ? cell[5 + 2 * i] : 0;
+    return total;
+}
+
+/* A notice that covers the period and that the two totals allow; else as for any variation. */
+static int reason_to_go_back(struct random *r, const struct scene *scene, int f, int s, int64_t period)
+{
+    if (period < 0 || one_in(r, 3))
+        return some_reason(r, scene, f, s, period);
+    const int32_t *variation = cell_of(scene, f, s, 1, period % 336), *standing = cell_of(scene, f, s, 0, period % 336);
+    int64_t before = counted_in_gate(variation), after = standing[0] == 1 ? counted_in_gate(standing) : 0;
+    int kind = after < before ? 3 : (int)between(r, 4, 5);
+    const int32_t *notice = scene->words + 5 + 2 * (kind - 3);
+    bool holds = notice[0] <= period && period <= notice[1] && after != before;
+    return holds ? kind : some_reason(r, scene, f, s, period);
+}
+
+static struct record take_back_at(struct random *r, struct scene *scene, int f, int s, int64_t period)
+{
+    struct record record = offer_for(BILZHAAN_CALL_VARIATION, f, s, (int32_t)period,
+                                     reason_to_go_back(r, scene, f, s, period));
+    rates(r, scene, f, s, &record);
+    if (one_in(r, 12))
+        fault(r, scene, f, s, &record);
+    remember(scene, f, s, period);
+    return record;
+}
+
+/* Mostly of a period that has a variation, the first such key from a random one on; half of the time only where the gate
+ * is shut and there is a standing offer to go back to. */
+static struct record some_take_back(struct random *r, struct scene *scene)
+{
+    unsigned from = (unsigned)(random_bits(r) % SCENE_KEYS);
+    bool anywhere = one_in(r, 2);
+    for (unsigned i = 0; i < SCENE_KEYS && !one_in(r, 20); i++) {
+        unsigned key = (from + i) % SCENE_KEYS;
+        int f = scene->keys[key].facility, s = scene->keys[key].service;
+        int64_t period = scene->keys[key].period;
+        if (f < scene->facilities && s < scene->services && period > now_of(scene) / 30
+            && cell_of(scene, f, s, 1, period % 336)[0] == period + 1
+            && (anywhere || (30 * period - now_of(scene) < 65 && cell_of(scene, f, s, 0, period % 336)[0] == 1)))
+            return take_back_at(r, scene, f, s, period);
+    }
+    int f = some_facility(r, scene), s = some_service(r, scene, f);
+    return take_back_at(r, scene, f, s, some_period(r, scene));
+}
+
 struct record random_variation(struct random *r, struct scene *scene, int f, int s, int64_t period)
 {
-    return offer_at(r, scene, BILZHAAN_CALL_VARIATION, f, s, period);
+    return one_in(r, 3) ? take_back_at(r, scene, f, s, period) : offer_at(r, scene, BILZHAAN_CALL_VARIATION, f, s, period);
 }
 
 /* ---- the other calls ---- */
@@ -464,7 +523,7 @@ size_t random_call(struct random *r, struct scene *scene, uint8_t bytes[LONGEST_
     else if (choice < 36)
         record = some_offer(r, scene, BILZHAAN_CALL_STANDING);
     else if (choice < 62)
-        record = some_offer(r, scene, BILZHAAN_CALL_VARIATION);
+        record = one_in(r, 4) ? some_take_back(r, scene) : some_offer(r, scene, BILZHAAN_CALL_VARIATION);
     else if (choice < 68)
         record = some_outage(r, scene);
     else if (choice < 76)

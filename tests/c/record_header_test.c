@@ -224,6 +224,26 @@ static void answered(void)
     EQUAL(bilzhaan_answered_offer(&a).proportion, 65535);
 }
 
+/* A variation without pairs is the record that takes one back. */
+static void taken_back(void)
+{
+    const struct bilzhaan_offer standing = {.period = 100, .pairs = {{1, 9}}}, variation = {.period = 100, .pairs = {{1, 5}}};
+    const struct bilzhaan_offer none = {.period = 100, .reason = BILZHAAN_REASON_FORCED_OUTAGE};
+    struct record r = offer_for(BILZHAAN_CALL_VARIATION, 0, BILZHAAN_ENERGY, 100, 2);
+    open_with_a_load();
+    bilzhaan_write_standing(written, &standing);
+    EQUAL(filed(), BILZHAAN_ACCEPTED);
+    bilzhaan_write_variation(written, &variation);
+    EQUAL(filed(), BILZHAAN_ACCEPTED);
+    bilzhaan_write_variation(written, &none);
+    EQUAL(memcmp(written, r.bytes, BILZHAAN_RECORD_BYTES), 0);
+    EQUAL(filed(), BILZHAAN_ACCEPTED);
+    bilzhaan_write_look_up(written, 0, BILZHAAN_ENERGY, 100);
+    struct bilzhaan_answer a = bilzhaan_call(words, sizeof words / sizeof words[0], written, BILZHAAN_RECORD_BYTES);
+    EQUAL(a.words[BILZHAAN_ANSWER_IN_FORCE], BILZHAAN_STANDING_IN_FORCE);
+    EQUAL(a.sum, 9);
+}
+
 int main(int count, char **arguments)
 {
     if (count == 2 && strcmp(arguments[1], "--texts") == 0) {
@@ -242,6 +262,7 @@ int main(int count, char **arguments)
     offers();
     out_of_range();
     answered();
+    taken_back();
     texts();
     printf("%ld passed, %ld failed\n", passed, failed);
     return failed != 0;

@@ -15,11 +15,12 @@ HERE = os.path.dirname(os.path.abspath(__file__))
 sys.path.insert(0, HERE)
 
 from lists import (damaged_books, filing_edges, largest_book, no_kind, openings, proportions, record_tests, sound_books,  # noqa: E402
-                   unusable_books)
+                   taken_back, unusable_books)
 from lists.form import Script  # noqa: E402
 
 FILES = {module.__name__.split('.')[-1]: module for module in
-         (openings, unusable_books, record_tests, no_kind, proportions, filing_edges, sound_books, damaged_books, largest_book)}
+         (openings, unusable_books, record_tests, no_kind, proportions, filing_edges, sound_books, taken_back, damaged_books,
+          largest_book)}
 
 
 def script_of(module):
@@ -46,6 +47,9 @@ def answered(program, name, script):
         answer = line[len(question) + 1:]
         if stated is not None and not re.fullmatch(stated, answer):
             wrong.append(f'{name}.txt:{place}: stated {stated}, answered {answer}')
+    for places in script.equal.values():
+        if len({lines[place] for place in places}) > 1:
+            wrong.append(f"{name}.txt: stated to be the same: lines {', '.join(str(place + 1) for place in places)}")
     if wrong:
         sys.exit('\n'.join(wrong[:20]))
     return ran.stdout

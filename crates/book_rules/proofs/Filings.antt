@@ -1,19 +1,22 @@
 -- What each accepted call files, in the book's words and in the list: the same thing under the same key, and nothing under any other.
 use mathlib.Core.Path.{_≡_, refl, sym, _∙_, ap}
 use mathlib.Core.Logic.{_≢_, _⊎_, inl, inr}
-use mathlib.Core.Bool.{Bool, true, false, _&&_}
+use mathlib.Core.Bool.{Bool, true, false, cond, _&&_}
 use mathlib.Core.List.{List, [], _∷_}
 use mathlib.Core.Option.{Option, none, some}
 use Prim.Native.Nat.{ℕ, suc}
+use native.Mathlib.Omega.{arith}
 use lib.Dec.{eqb}
 use lib.IntN.{ℤ, pos}
 use lib.ListN.{length}
 use borrow.Author.Tests.{eq-eqb, ne-eqb, eqb-true}
 use Rattle.offer_rules.specs.Numbers.{toNat}
+use Rattle.offer_rules.specs.Offer.{pairs, all-blank}
 use Rattle.offer_rules.specs.Gate.{Window}
 use Rattle.book_rules.specs.Record.{call-of, facility-of, service-of, period-word, reason-of, word-A, word-B, capability-in, offer-in}
-use Rattle.book_rules.specs.Words.{put, cell, standing-stamp, variation-stamp}
-use Rattle.book_rules.specs.Book.{facilities-in, services-in, held, file-offer, outage-words, book-accept}
+use Rattle.book_rules.specs.Words.{put, cell, holding, standing-stamp, variation-stamp}
+use Rattle.book_rules.specs.Force.{variation-made}
+use Rattle.book_rules.specs.Book.{facilities-in, services-in, held, write-cell, outage-words, book-accept}
 use Rattle.book_rules.specs.ListMachine.{newest, list-clock, list-capability, list-outage, list-notice, list-standing, list-variation}
 use Rattle.book_rules.proofs.Calls.{length-capability, length-offer}
 use Rattle.book_rules.proofs.Places.{Key, clockK, noticeK, capabilityK, outageK, standingK, variationK, place, width}
@@ -44,6 +47,22 @@ shown (capabilityK f) c = c
 shown (outageK f) c = c
 shown (standingK f s k) c = offer-words (held standing-stamp c)
 shown (variationK f s p) c = offer-words (held (variation-stamp p) c)
+
+-- ---- a cell written and read
+
+-- What is held under a stamp other than 0, which an empty cell has, is read back.
+pub held-back : (stamp : ℕ) (x : Option (List ℤ)) → (stamp ≡ 0 → ⊥) → held stamp (holding stamp x) ≡ x
+unfolding held holding cell
+held-back stamp none n = rw (ne-eqb 0 stamp (λ z. n (sym z)))
+held-back stamp (some o) n = rw (eq-eqb stamp stamp refl)
+
+pub length-holding : (stamp : ℕ) (o : List ℤ) → length o ≡ 23 → length (holding stamp (variation-made o)) ≡ 24
+unfolding variation-made holding cell
+length-holding stamp o h = go (all-blank (pairs o))
+  where
+    go : (t : Bool) → length (holding stamp (cond t none (some o))) ≡ 24
+    go true = refl
+    go false = ap suc h
 
 -- ---- what a call files
 
@@ -161,7 +180,7 @@ module _ (b : List ℕ) where
     standing-keeps e l (variationK f s q) n = rw e
 
     pub standing-files : call-of b ≡ 3 → Files b (standingK (facility-of b) (service-of b) p) (cell standing-stamp (offer-in b))
-    unfolding book-accept file-offer place width shown listed newest list-standing held cell
+    unfolding book-accept write-cell place width shown listed newest list-standing held cell
     standing-files e = record {
       writes = λ w. rw (e, is);
       sized = ap suc (length-offer b);
@@ -179,13 +198,15 @@ module _ (b : List ℕ) where
     variation-keeps e l (variationK f s q) n =
         rw (e, is, three-apart (facility-of b) (service-of b) p f s q (λ x y z. n (λ i. variationK (sym x i) (sym y i) (sym z i))))
 
-    pub variation-files : call-of b ≡ 4 → Files b (variationK (facility-of b) (service-of b) p) (cell (variation-stamp p) (offer-in b))
-    unfolding book-accept file-offer place width shown listed newest list-variation held cell
+    pub variation-files : call-of b ≡ 4
+        → Files b (variationK (facility-of b) (service-of b) p) (holding (variation-stamp p) (variation-made (offer-in b)))
+    unfolding book-accept write-cell place width shown listed newest list-variation
     variation-files e = record {
       writes = λ w. rw (e, is);
-      sized = ap suc (length-offer b);
+      sized = length-holding (variation-stamp p) (offer-in b) (length-offer b);
       shows = λ l.
-          rw (e, is, eq-eqb (facility-of b) (facility-of b) refl, eq-eqb (service-of b) (service-of b) refl, eq-eqb p p refl, eq-eqb (variation-stamp p) (variation-stamp p) refl);
+          ap offer-words (held-back (variation-stamp p) (variation-made (offer-in b)) (λ z. omega arith))
+          ∙ rw (e, is, eq-eqb (facility-of b) (facility-of b) refl, eq-eqb (service-of b) (service-of b) refl, eq-eqb p p refl);
       keeps = variation-keeps e;
     }
 

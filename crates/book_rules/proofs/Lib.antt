@@ -11,3 +11,4 @@ pub mod Striking
 pub mod EveryRun
 pub mod ByNumber
 pub mod OneCall
+pub mod Afterwards

@@ -56,7 +56,7 @@ unfolding cell-place book-size
 cell-inside F S f s h k hf hs hh hk = omega (arith, mul-le-mul-right S hf)
 
 module _ (F S : ℕ) where
-  cells-apart : (f s h k f′ s′ h′ k′ : ℕ) → s < S → s′ < S → h < 2 → h′ < 2 → k < 336 → k′ < 336
+  pub cells-apart : (f s h k f′ s′ h′ k′ : ℕ) → s < S → s′ < S → h < 2 → h′ < 2 → k < 336 → k′ < 336
       → cell-place F S f′ s′ h′ k′ < cell-place F S f s h k + 24 → cell-place F S f s h k < cell-place F S f′ s′ h′ k′ + 24
       → (f ≡ f′) × (s ≡ s′) × (h ≡ h′) × (k ≡ k′)
   unfolding cell-place
@@ -65,7 +65,7 @@ module _ (F S : ℕ) where
       let y = digits S f s f′ s′ hs hs′ (x .0) in
       (y .0, y .1, x .1, x .2)
 
-  cell-late : (f s h k : ℕ) → 64 + 32 * F ≤ cell-place F S f s h k
+  pub cell-late : (f s h k : ℕ) → 64 + 32 * F ≤ cell-place F S f s h k
   unfolding cell-place
   cell-late f s h k = omega arith
 

@@ -10,11 +10,10 @@ use lib.IntN.{ℤ, pos, _+ℤ_}
 use Rattle.offer_rules.specs.Numbers.{toNat, _then_}
 use Rattle.offer_rules.specs.Time.{slots, slot-of, start-of, horizon-end, slot-refused, period-refused}
 use Rattle.offer_rules.specs.Offer.{offer-number, kind-of}
-use Rattle.offer_rules.specs.Gate.{Grounds}
 use Rattle.offer_rules.proofs.Drawn.{then-eq, then-zero, draw-zero}
 use Rattle.offer_rules.proofs.Periods.{slot-is, period-is}
 use Rattle.book_rules.specs.Record.{call-of, facility-of, service-of, period-word, reason-of, word-A, word-B, capability-in, offer-in, uses}
-use Rattle.book_rules.specs.Force.{View, InForce, first-of, in-force, counted, offered, count-in-force, sum-in-force, found, totalled}
+use Rattle.book_rules.specs.Force.{View, InForce, first-of, in-force, will-stand, pairs-of, counted, offered, count-in-force, sum-in-force, found, totalled}
 use Rattle.book_rules.specs.Refusals.{clock-number, capability-number, facility-number, admission-number, admitted-standing, admitted-variation, revision-number, grounds, gate-number, period-number, force-number, standing-number, variation-number, look-up-number, outage-number, judge, reply, look-up-reply, total-reply}
 use Rattle.book_rules.proofs.Calls.{Which, is-clock, is-capability, is-standing, is-variation, is-outage, is-notice, is-withdrawal, is-look-up, is-total, Named, judge-clock, judge-capability, judge-standing, judge-variation, judge-outage, judge-notice, judge-withdrawal, judge-look-up, judge-total, reply-look-up, reply-total, reply-plain, capability-uses, standing-uses, variation-uses, outage-uses, look-up-uses, total-uses}
 
@@ -58,6 +57,10 @@ module _ (F S : ℕ) (Q : ℕ → Type 0) where
     unfolding in-force
     force-same f s p q hf hs hp = ap₂ first-of (r .variation-same f s p q hf hs hp) (r .standing-same f s (slot-of p) q hf hs (omega arith))
 
+    afterwards-same : (f s p : ℕ) (o : List ℤ) → Q f → f < F → s < S → will-stand u f s p o ≡ will-stand v f s p o
+    unfolding will-stand
+    afterwards-same f s p o q hf hs = ap (first-of _) (r .standing-same f s (slot-of p) q hf hs (omega arith))
+
     grounds-same : (f : ℕ) → Q f → f < F → grounds u f ≡ grounds v f
     unfolding grounds
     grounds-same f q hf = λ i. record {
@@ -84,9 +87,8 @@ module _ (F S : ℕ) (Q : ℕ → Type 0) where
         let c = r .capability-same f q hf in
         then-eq _ _ _ _ (ap₂ (λ (n : ℕ) (x : List ℤ). admission-number x s (period-refused n p)) (r .now-same) c) λ e.
         then-eq _ _ _ _ (ap₂ (λ (l x : List ℤ). offer-number l x s reason o) (r .limits-same) c) λ _.
-        ap₂ (λ (g : Grounds) (x : InForce). gate-number (u .now) g s (toNat p) reason x o) (grounds-same f q hf)
-        (force-same f s (toNat p) q hf hs (period-is (u .now) p (admitted (u .capability f) s (period-refused (u .now) p) e) .1))
-        ∙ ap (λ (n : ℕ). gate-number n (grounds v f) s (toNat p) reason (in-force v f s (toNat p)) o) (r .now-same)
+        let old = force-same f s (toNat p) q hf hs (period-is (u .now) p (admitted (u .capability f) s (period-refused (u .now) p) e) .1) in
+        λ i. gate-number (r .now-same i) (grounds-same f q hf i) s (toNat p) reason (pairs-of (old i)) (pairs-of (afterwards-same f s (toNat p) o q hf hs i))
 
     look-up-number-same : (f s : ℕ) (p : ℤ) → Q f → f < F → s < S → look-up-number u f s p ≡ look-up-number v f s p
     unfolding look-up-number

@@ -18,7 +18,8 @@ use Rattle.offer_rules.specs.Gate.{Window}
 use Rattle.offer_rules.proofs.Drawn.{and-left, and-right, or-left, draw-zero}
 use Rattle.offer_rules.proofs.Periods.{within, one-of-a-slot}
 use Rattle.book_rules.specs.Record.{facility-of, service-of, period-word, reason-of, word-A, word-B, capability-in, offer-in, between}
-use Rattle.book_rules.specs.Words.{part, put, book-size, book-mark, book-version, clock-place, limits-place, cell-place, standing-half, variation-half, cell, standing-stamp, variation-stamp}
+use Rattle.book_rules.specs.Words.{part, put, book-size, book-mark, book-version, clock-place, limits-place, cell-place, standing-half, variation-half, cell, holding, standing-stamp, variation-stamp}
+use Rattle.book_rules.specs.Force.{variation-made}
 use Rattle.book_rules.specs.Refusals.{judge, clock-number, notice-number}
 use Rattle.book_rules.specs.Book.{facilities-in, services-in, window-in, held, book-view, book-accept}
 use Rattle.book_rules.specs.ListMachine.{list-clock, list-view}
@@ -49,14 +50,14 @@ Near now (outageK f) = Unit {0}
 Near now (standingK f s k) = Unit {0}
 Near now (variationK f s p) = (now < start-of p) × (p < horizon-end now)
 
--- A variation's cell is stamped with its period.
+-- A variation's cell holds nothing for another period.
 abbrev Stamped : Key → List ℤ → Type 0
 Stamped clockK v = Unit {0}
 Stamped (noticeK k) v = Unit {0}
 Stamped (capabilityK f) v = Unit {0}
 Stamped (outageK f) v = Unit {0}
 Stamped (standingK f s k) v = Unit {0}
-Stamped (variationK f s p) v = word v 0 ≡ pos (variation-stamp p)
+Stamped (variationK f s p) v = (q : ℕ) → q ≢ p → held (variation-stamp q) v ≡ none
 
 alive-before : (m n : ℕ) (κ : Key) → m ≤ n → Alive n κ → Alive m κ
 alive-before m n clockK h a = tt
@@ -74,6 +75,11 @@ other-stamp n m c e h = rw (e, ne-eqb m n h)
 -- Two periods have two stamps.
 stamps-differ : (q p : ℕ) → q ≢ p → variation-stamp p ≢ variation-stamp q
 stamps-differ q p n e = n (omega arith)
+
+none-for-another : (p : ℕ) (x : Option (List ℤ)) (q : ℕ) → q ≢ p → held (variation-stamp q) (holding (variation-stamp p) x) ≡ none
+unfolding holding cell
+none-for-another p none q n = other-stamp (variation-stamp q) 0 (holding (variation-stamp p) none) refl (λ e. omega arith)
+none-for-another p (some o) q n = other-stamp (variation-stamp q) (variation-stamp p) (holding (variation-stamp p) (some o)) refl (stamps-differ q p n)
 
 -- Back from words to what they show.
 offer-back : List ℤ → Option (List ℤ)
@@ -191,19 +197,19 @@ module _ (F S : ℕ) (limits : List ℤ) where
         go f s q p eκ e₀ n m =
             let a′ : list-now l < start-of q = subst (Alive (list-now l)) eκ a in
             let near′ : (list-now l < start-of p) × (p < horizon-end (list-now l)) = subst (Near (list-now l)) e₀ near in
-            let stamp : word v 0 ≡ pos (variation-stamp p) = subst (λ (k : Key). Stamped k v) e₀ stamped in
+            let other : (q : ℕ) → q ≢ p → held (variation-stamp q) v ≡ none = subst (λ (k : Key). Stamped k v) e₀ stamped in
             let there : place F S (variationK f s q) ≡ place F S κ₀ = unfold place in ap (λ (k : ℕ). cell-place F S f s variation-half k) m ∙ ap (place F S) (sym e₀) in
             let wide : width (variationK f s q) ≡ width κ₀ = unfold width in ap width (sym e₀) in
             let raw : part (place F S (variationK f s q)) (width (variationK f s q)) written ≡ v =
             ap₂ (λ (i j : ℕ). part i j written) there wide ∙ part-put w (place F S κ₀) v room (width κ₀) (x .sized) in
             ap (λ (k : Key). shown k (part (place F S k) (width k) written)) eκ
             ∙ ap (shown (variationK f s q)) raw
-            ∙ gone f s q p stamp n
+            ∙ gone f s q (other q n)
             ∙ sym (r .none-far f s q (one-of-a-slot (list-now l) p q (near′ .0) (near′ .1) a′ n m))
             ∙ ap (listed l) (sym eκ)
           where
-            gone : (f s q p : ℕ) → word v 0 ≡ pos (variation-stamp p) → q ≢ p → shown (variationK f s q) v ≡ []
-            gone f s q p stamp n = unfold shown offer-words in ap offer-words (other-stamp (variation-stamp q) (variation-stamp p) v stamp (stamps-differ q p n))
+            gone : (f s q : ℕ) → held (variation-stamp q) v ≡ none → shown (variationK f s q) v ≡ []
+            gone f s q e = unfold shown offer-words in ap offer-words e
 
     at-after : (κ : Key) → Valid F S κ → Alive (list-now (b ∷ l)) κ → shown κ (part (place F S κ) (width κ) written) ≡ listed (b ∷ l) κ
     at-after κ vκ a = go (Key-discrete ℕ-discrete κ κ₀) (Key-discrete ℕ-discrete (spot κ) (spot κ₀))
@@ -306,8 +312,10 @@ module _ (F S : ℕ) (limits : List ℤ) where
       go (is-variation k) =
           let y = variation-uses b k in
           let s = variation-accepted (book-view w) (facility-of b) (service-of b) (period-word b) (reason-of b) (offer-in b) (sym (judge-variation (book-view w) b k) ∙ e) in
-          file (variationK (facility-of b) (service-of b) (toNat (period-word b))) (cell (variation-stamp (toNat (period-word b))) (offer-in b)) (variation-files b (toNat (period-word b)) (s .0) k)
-          (n .facility-in (y .0), n .service-in (y .1)) (unfold cell in refl) refl (omega (arith, s .1, now≡), omega (arith, s .2, now≡))
+          let p = toNat (period-word b) in
+          let x = variation-made (offer-in b) in
+          file (variationK (facility-of b) (service-of b) p) (holding (variation-stamp p) x) (variation-files b p (s .0) k)
+          (n .facility-in (y .0), n .service-in (y .1)) (none-for-another p x) refl (omega (arith, s .1, now≡), omega (arith, s .2, now≡))
       go (is-outage k) = file (outageK (facility-of b)) _ (outage-files b k) (n .facility-in (outage-uses b k)) tt refl tt
       go (is-notice k) =
           file (noticeK (reason-of b)) _ (notice-files b k) (notice-kinds (reason-of b) (word-A b) (word-B b) (sym (judge-notice (book-view w) b k) ∙ e)) tt refl tt

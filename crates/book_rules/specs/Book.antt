@@ -9,8 +9,8 @@ use Rattle.offer_rules.specs.Numbers.{eqZ, toNat, word}
 use Rattle.offer_rules.specs.Time.{slot-of}
 use Rattle.offer_rules.specs.Gate.{Window}
 use Rattle.book_rules.specs.Record.{call-of, facility-of, service-of, period-word, reason-of, word-A, word-B, capability-in, offer-in}
-use Rattle.book_rules.specs.Words.{part, put, clock-place, notice-place, limits-place, facility-place, outage-place, cell-place, standing-half, variation-half, cell, cell-stamp, cell-offer, standing-stamp, variation-stamp, is-book}
-use Rattle.book_rules.specs.Force.{View, empty-window, outage-window, Answer, plain}
+use Rattle.book_rules.specs.Words.{part, put, clock-place, notice-place, limits-place, facility-place, outage-place, cell-place, standing-half, variation-half, cell, cell-stamp, cell-offer, holding, standing-stamp, variation-stamp, is-book}
+use Rattle.book_rules.specs.Force.{View, empty-window, outage-window, variation-made, Answer, plain}
 use Rattle.book_rules.specs.Refusals.{answer, after}
 
 -- ---- what the words show
@@ -48,14 +48,15 @@ book-view w = record {
 -- ---- what an accepted call writes
 
 -- "An accepted offer writes one cell's 24 words and no other word."
-unfoldable pub file-offer : List ℤ → ℕ → ℕ → ℕ → ℕ → ℕ → List ℤ → List ℤ
-file-offer w f s h k stamp o = put w (cell-place (facilities-in w) (services-in w) f s h k) (cell stamp o)
+unfoldable pub write-cell : List ℤ → ℕ → ℕ → ℕ → ℕ → List ℤ → List ℤ
+write-cell w f s h k c = put w (cell-place (facilities-in w) (services-in w) f s h k) c
 
 abbrev pub file-standing : List ℤ → ℕ → ℕ → ℕ → List ℤ → List ℤ
-file-standing w f s k o = file-offer w f s standing-half k standing-stamp o
+file-standing w f s k o = write-cell w f s standing-half k (cell standing-stamp o)
 
+-- Where a variation's pairs are all blank, "its cell becomes 24 zeros".
 abbrev pub file-variation : List ℤ → ℕ → ℕ → ℕ → List ℤ → List ℤ
-file-variation w f s p o = file-offer w f s variation-half (slot-of p) (variation-stamp p) o
+file-variation w f s p o = write-cell w f s variation-half (slot-of p) (holding (variation-stamp p) (variation-made o))
 
 abbrev pub words-of : Window → List ℤ
 words-of v = v .first ∷ (v .last ∷ [])

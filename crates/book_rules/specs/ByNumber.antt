@@ -13,7 +13,7 @@ use Rattle.offer_rules.specs.Offer.{Pair, pairs, sum-of, any-pair, out-of-range
 use Rattle.offer_rules.specs.Gate.{gate-refuses, standing-gate-refuses}
 use Rattle.book_rules.specs.Record.{call-of, facility-of, service-of, period-word, reason-of, word-A, word-B, capability-in, offer-in, is-record, outside, has-stray}
 use Rattle.book_rules.specs.Words.{is-book}
-use Rattle.book_rules.specs.Force.{View, InForce, in-force, pairs-of, counted}
+use Rattle.book_rules.specs.Force.{View, InForce, in-force, will-stand, pairs-of, counted}
 use Rattle.book_rules.specs.Refusals.{has-kind, clock-refused, outage-refused, notice-refused, withdrawal-refused, capability-refused, is-registered, equal-words, grounds}
 use Rattle.book_rules.specs.Book.{book-view}
 
@@ -41,6 +41,10 @@ module _ (vw : View) (b : List ℕ) where
 
   abbrev pub own-force : InForce
   own-force = in-force vw (facility-of b) (service-of b) (toNat (period-word b))
+
+  -- "the offer that will stand afterwards"
+  abbrev pub own-afterwards : InForce
+  own-afterwards = will-stand vw (facility-of b) (service-of b) (toNat (period-word b)) (offer-in b)
 
   abbrev pub own-held : Option (List ℤ)
   own-held = vw .standing (facility-of b) (service-of b) (toNat (period-word b))
@@ -70,7 +74,7 @@ module _ (vw : View) (b : List ℕ) where
       ∷ ((is-offer b && above-capacity own-capability (service-of b) (sum-of own-pairs))
       -- 17 "gate"
       ∷ (((is-call 3 b && of-held (λ _. standing-gate-refuses (vw .now) (toNat (period-word b))) own-held)
-      || (is-call 4 b && gate-refuses (vw .now) (grounds vw (facility-of b)) (service-of b) (toNat (period-word b)) (reason-of b) (pairs-of own-force) own-pairs))
+      || (is-call 4 b && gate-refuses (vw .now) (grounds vw (facility-of b)) (service-of b) (toNat (period-word b)) (reason-of b) (pairs-of own-force) (pairs-of own-afterwards)))
       -- 18 "standing offer equal to the held one in cell words 1–23"
       ∷ ((is-call 3 b && of-held (λ held. equal-words held (offer-in b)) own-held)
       -- 19 "nothing in force (call 8)"

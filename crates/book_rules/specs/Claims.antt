@@ -8,10 +8,10 @@ use lib.Dec.{eqb}
 use lib.IntN.{ℤ}
 use lib.ListN.{length}
 use Rattle.offer_rules.specs.Numbers.{toNat}
-use Rattle.book_rules.specs.Record.{call-of, facility-of, between}
+use Rattle.book_rules.specs.Record.{call-of, facility-of, service-of, period-word, offer-in, between}
 use Rattle.book_rules.specs.Words.{opening-number, opening-words}
-use Rattle.book_rules.specs.Force.{Answer, plain}
-use Rattle.book_rules.specs.Book.{book-answer, book-after, book-answers, book-run}
+use Rattle.book_rules.specs.Force.{Answer, plain, in-force, will-stand}
+use Rattle.book_rules.specs.Book.{book-view, book-answer, book-after, book-answers, book-run}
 use Rattle.book_rules.specs.ByNumber.{applies}
 use Rattle.book_rules.specs.ListMachine.{list-answers}
 
@@ -35,6 +35,13 @@ AcceptedExactly = (w : List ℤ) (b : List ℕ) → (is-accepted w b ≡ true) �
 unfoldable pub LowestThatApplies : Type 0
 LowestThatApplies = (w : List ℤ) (b : List ℕ) → is-accepted w b ≡ false
     → (applies w b (book-answer w b .number) ≡ true) × ((n : ℕ) → n < book-answer w b .number → applies w b n ≡ false)
+
+-- What 17 holds against old, "the offer that will stand afterwards", is what an accepted variation leaves in force for its period,
+-- on every words that are a book.
+unfoldable pub StandsAfterwards : Type 0
+StandsAfterwards = (w : List ℤ) (b : List ℕ) → call-of b ≡ 4 → is-accepted w b ≡ true
+    → in-force (book-view (book-after w b)) (facility-of b) (service-of b) (toNat (period-word b))
+    ≡ will-stand (book-view w) (facility-of b) (service-of b) (toNat (period-word b)) (offer-in b)
 
 -- ---- demand 3: every list of calls
 -- Premise: each call is lent the words that the call before left, the first those that an accepted opening left.

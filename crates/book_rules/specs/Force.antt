@@ -1,11 +1,12 @@
 -- Document 01, "Offer in force": what a state shows to the rules, the offer in force, and answers.
+use mathlib.Core.Bool.{cond}
 use mathlib.Core.List.{List, [], _∷_}
 use mathlib.Core.Option.{Option, none, some}
 use Prim.Native.Nat.{ℕ, zero, suc, _+_, _/_}
 use lib.IntN.{ℤ, pos, _+ℤ_}
 use Rattle.offer_rules.specs.Numbers.{zeros}
 use Rattle.offer_rules.specs.Time.{slot-of}
-use Rattle.offer_rules.specs.Offer.{Pair, pairs, sum-of}
+use Rattle.offer_rules.specs.Offer.{Pair, pairs, all-blank, sum-of}
 use Rattle.offer_rules.specs.Gate.{Window}
 
 -- What the rules read of a state, whether a book's words or a list of accepted calls; an offer is its words 1 to 23.
@@ -42,6 +43,14 @@ first-of none none = no-offer
 -- "For (f, s, P)"
 unfoldable pub in-force : View → ℕ → ℕ → ℕ → InForce
 in-force vw f s p = first-of (vw .variation f s p) (vw .standing f s (slot-of p))
+
+-- "An accepted variation whose pairs are all blank .. means: no variation."
+unfoldable pub variation-made : List ℤ → Option (List ℤ)
+variation-made o = cond (all-blank (pairs o)) none (some o)
+
+-- "the offer that will stand afterwards" for (f, s, P), once a variation that carries o is filed (Claims, StandsAfterwards)
+unfoldable pub will-stand : View → ℕ → ℕ → ℕ → List ℤ → InForce
+will-stand vw f s p o = first-of (variation-made o) (vw .standing f s (slot-of p))
 
 -- "none has total 0"
 unfoldable pub pairs-of : InForce → List Pair

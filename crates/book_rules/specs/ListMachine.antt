@@ -9,7 +9,7 @@ use lib.IntN.{ℤ, pos}
 use Rattle.offer_rules.specs.Numbers.{eqZ, toNat, zeros}
 use Rattle.offer_rules.specs.Gate.{Window}
 use Rattle.book_rules.specs.Record.{call-of, facility-of, service-of, period-word, reason-of, word-A, word-B, capability-in, offer-in}
-use Rattle.book_rules.specs.Force.{View, Answer, empty-window, outage-window}
+use Rattle.book_rules.specs.Force.{View, Answer, empty-window, outage-window, variation-made}
 use Rattle.book_rules.specs.Refusals.{answer, after}
 
 -- What the newest call says to which the test applies; `before` where there is none.
@@ -45,9 +45,9 @@ list-notice (c ∷ l) k =
 unfoldable pub list-standing : List (List ℕ) → ℕ → ℕ → ℕ → Option (List ℤ)
 list-standing l f s k = newest (is-offer-for 3 f s k) (λ c. some (offer-in c)) none l
 
--- "Variation: newest for (f, s, P), with P whole, not its slot."
+-- "Variation: newest for (f, s, P), with P whole, not its slot." "a newest variation that is blank counts as none"
 unfoldable pub list-variation : List (List ℕ) → ℕ → ℕ → ℕ → Option (List ℤ)
-list-variation l f s p = newest (is-offer-for 4 f s p) (λ c. some (offer-in c)) none l
+list-variation l f s p = newest (is-offer-for 4 f s p) (λ c. variation-made (offer-in c)) none l
 
 unfoldable pub list-view : ℕ → ℕ → List ℤ → List (List ℕ) → View
 list-view F S limits l = record {

@@ -9,10 +9,10 @@ use lib.IntN.{ℤ, pos}
 use lib.Signed.{leZ}
 use Rattle.offer_rules.specs.Numbers.{eqZ, toNat, beyond, any-beyond, draw, _then_}
 use Rattle.offer_rules.specs.Time.{slot-refused, period-refused}
-use Rattle.offer_rules.specs.Offer.{kind-of, is-load, is-kind, mark-for, pairs, offer-number}
+use Rattle.offer_rules.specs.Offer.{Pair, kind-of, is-load, is-kind, mark-for, offer-number}
 use Rattle.offer_rules.specs.Gate.{Grounds, gate-refuses, standing-gate-refuses}
 use Rattle.book_rules.specs.Record.{call-of, facility-of, service-of, period-word, reason-of, word-A, word-B, capability-in, offer-in, between, record-number}
-use Rattle.book_rules.specs.Force.{View, InForce, in-force, pairs-of, counted, count-in-force, sum-in-force, Answer, plain, found, totalled}
+use Rattle.book_rules.specs.Force.{View, InForce, in-force, will-stand, pairs-of, counted, count-in-force, sum-in-force, Answer, plain, found, totalled}
 
 -- 5 "facility has kind neither 1 nor 2 in the book (calls 3, 4, 5, 8)"
 unfoldable pub has-kind : List ℤ → Bool
@@ -90,8 +90,8 @@ revision-number now k (some held) o = draw (standing-gate-refuses now k) 17 then
 unfoldable pub grounds : View → ℕ → Grounds
 grounds vw f = record { kind = kind-of (vw .capability f); outage = vw .outage f; surplus = vw .notice 3; shortfall = vw .notice 4; status = vw .notice 5 }
 
-unfoldable pub gate-number : ℕ → Grounds → ℕ → ℕ → ℕ → InForce → List ℤ → ℕ
-gate-number now g s p reason old o = draw (gate-refuses now g s p reason (pairs-of old) (pairs o)) 17
+unfoldable pub gate-number : ℕ → Grounds → ℕ → ℕ → ℕ → List Pair → List Pair → ℕ
+gate-number now g s p reason old new = draw (gate-refuses now g s p reason old new) 17
 
 -- 10 "Also calls 8 and 9, for P."
 unfoldable pub period-number : ℕ → ℤ → ℕ
@@ -111,10 +111,12 @@ admission-number c s refused = facility-number c then registration-number c s th
 unfoldable pub admitted-standing : View → ℕ → ℕ → ℕ → List ℤ → ℕ
 admitted-standing vw f s k o = offer-number (vw .limits) (vw .capability f) s 0 o then revision-number (vw .now) k (vw .standing f s k) o
 
--- 11 to 17 of a variation that is admitted for period p.
+-- 11 to 17 of a variation that is admitted for period p. "Old is the offer in force before the call";
+-- "The gate compares old with the offer that will stand afterwards."
 unfoldable pub admitted-variation : View → ℕ → ℕ → ℕ → ℕ → List ℤ → ℕ
 admitted-variation vw f s p reason o =
-    offer-number (vw .limits) (vw .capability f) s reason o then gate-number (vw .now) (grounds vw f) s p reason (in-force vw f s p) o
+    offer-number (vw .limits) (vw .capability f) s reason o
+    then gate-number (vw .now) (grounds vw f) s p reason (pairs-of (in-force vw f s p)) (pairs-of (will-stand vw f s p o))
 
 unfoldable pub standing-number : View → ℕ → ℕ → ℤ → List ℤ → ℕ
 standing-number vw f s k o = admission-number (vw .capability f) s (slot-refused k) then admitted-standing vw f s (toNat k) o

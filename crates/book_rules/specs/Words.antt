@@ -1,6 +1,7 @@
 -- Document 01, "The book's words": where each thing stands, and the opening (refusal 20).
 use mathlib.Core.Bool.{Bool, cond, not, _&&_}
 use mathlib.Core.List.{List, [], _∷_, _++_}
+use mathlib.Core.Option.{Option, none, some}
 use Prim.Native.Nat.{ℕ, zero, suc, _+_, _*_, _-_}
 use lib.Dec.{leb, eqb}
 use lib.IntN.{ℤ, pos, negsuc}
@@ -66,6 +67,11 @@ cell-stamp c = word c 0
 
 abbrev pub cell-offer : List ℤ → List ℤ
 cell-offer c = drop 1 c
+
+-- A cell that holds an offer under a stamp; "24 zeros" where there is none to hold.
+unfoldable pub holding : ℕ → Option (List ℤ) → List ℤ
+holding stamp none = zeros 24
+holding stamp (some o) = cell stamp o
 
 abbrev pub standing-stamp : ℕ
 standing-stamp = 1

@@ -2,23 +2,22 @@
 use mathlib.Core.Path.{_≡_, refl, sym, _∙_, ap, ap₂}
 use mathlib.Core.Bool.{true, false}
 use mathlib.Core.List.{List, [], _∷_, map}
-use Prim.Native.Nat.{ℕ}
 use lib.ListN.{getD, List·getD-map}
 use Rattle.offer_rules.specs.Gate.{same-prices-to}
 use Rattle.cases.specs.Records.{_at_}
-use Rattle.cases.specs.Cases.{Case, drawn, first-case, cases, EveryCase}
+use Rattle.cases.specs.Cases.{Line, Case, answer-in, first-case, cases, EveryCase}
 use Rattle.cases.proofs.Computes.{computes}
 
-all-drawn : map drawn cases ≡ map (λ c. c .number) cases
-unfolding computes drawn
-all-drawn = refl
+all-answered : map answer-in cases ≡ map (λ c. c .answered) cases
+unfolding computes answer-in
+all-answered = refl
 
 pub every-case : EveryCase
 unfolding EveryCase
 every-case i =
-    sym (List·getD-map drawn cases i first-case)
-    ∙ ap₂ (λ (l : List ℕ) (d : ℕ). getD l i d) all-drawn (ap (λ (l : List ℕ). getD l 0 0) all-drawn)
-    ∙ List·getD-map (λ (c : Case). c .number) cases i first-case
+    sym (List·getD-map answer-in cases i first-case)
+    ∙ ap₂ (λ (l : List Line) (d : Line). getD l i d) all-answered (ap (λ (l : List Line). getD l 0 (answer-in first-case)) all-answered)
+    ∙ List·getD-map (λ (c : Case). c .answered) cases i first-case
 
 -- "the 451st tenth differs", and none before it.
 pub the-451st-differs :

@@ -1,12 +1,14 @@
--- The cases marked (p), as one table with one statement.
+-- The cases marked (p), and those of a variation taken back, as one table with one statement.
 use mathlib.Core.Path.{_≡_}
-use mathlib.Core.List.{List, [], _∷_}
+use mathlib.Core.List.{List, [], _∷_, _++_}
 use Prim.Native.Nat.{ℕ}
 use lib.IntN.{ℤ, pos, negsuc}
 use lib.ListN.{getD, replicate}
+use Rattle.offer_rules.specs.Numbers.{word}
 use Rattle.book_rules.specs.Words.{opening-words}
+use Rattle.book_rules.specs.Force.{Answer}
 use Rattle.book_rules.specs.Book.{book-answer, book-run}
-use Rattle.cases.specs.Records.{_at_, clock, capability, standing, variation, notice}
+use Rattle.cases.specs.Records.{_at_, clock, capability, standing, variation, outage, notice, look-up, total}
 
 -- "a book of 16,224 words, all zero before opening, F 1, S 1, energy −4,500.00 to 4,500.00, others to 4,500.00"
 abbrev pub limits : List ℤ
@@ -15,46 +17,96 @@ limits = negsuc 449999 ∷ (pos 450000 ∷ (pos 450000 ∷ (pos 450000 ∷ (pos 
 abbrev pub fresh-book : List ℤ
 fresh-book = opening-words (replicate 16224 (pos 0)) (pos 1) (pos 1) limits
 
--- After the calls before it, the last call draws this number, 0 where it passes.
+-- What the program prints of an answer: number, word 0, sum.
+pub record Line : Type 0 where
+  pub number : ℕ
+  pub word-0 : ℤ
+  pub sum : ℤ
+
+abbrev pub line-of : Answer → Line
+line-of a = record { number = a .number; word-0 = word (a .words) 0; sum = a .sum }
+
+abbrev pub reads : ℕ → ℕ → ℕ → Line
+reads n w z = record { number = n; word-0 = pos w; sum = pos z }
+
+-- After the calls before it, the last call is answered so.
 pub record Case : Type 0 where
   pub before : List (List ℕ)
   pub last : List ℕ
-  pub number : ℕ
+  pub answered : Line
 
-unfoldable pub drawn : Case → ℕ
-drawn c = book-answer (book-run fresh-book (c .before)) (c .last) .number
+unfoldable pub answer-in : Case → Line
+answer-in c = line-of (book-answer (book-run fresh-book (c .before)) (c .last))
+
+-- The last call passes, or draws a number.
+abbrev passes : Line
+passes = reads 0 0 0
+
+abbrev draws : ℕ → Line
+draws n = reads n 0 0
 
 abbrev plant : List ℕ
 plant = capability 1300 800
 
+abbrev stands : List ℕ
+stands = standing 4 (500 at 4000 ∷ (200 at 5000 ∷ []))
+
 -- "Old 50.0 at 40.00, 20.0 at 50.00, gate shut, reason 4, notice 4 covers P"
 abbrev gate-shut : List (List ℕ)
-gate-shut = plant ∷ (standing 4 (500 at 4000 ∷ (200 at 5000 ∷ [])) ∷ (notice 4 4 4 ∷ (clock 56 ∷ [])))
+gate-shut = plant ∷ (stands ∷ (notice 4 4 4 ∷ (clock 56 ∷ [])))
+
+-- A variation without a pair that isn't blank.
+abbrev blank : ℕ → List ℕ
+blank reason = variation 4 reason []
+
+-- A variation at the standing offer's price, without a standing offer and with one; then "gate shut", and an outage that covers P.
+abbrev varied : List (List ℕ)
+varied = plant ∷ (variation 4 0 (300 at 4000 ∷ []) ∷ [])
+
+abbrev both : List (List ℕ)
+both = plant ∷ (stands ∷ (variation 4 0 (300 at 4000 ∷ []) ∷ []))
+
+abbrev tripped : List (List ℕ)
+tripped = clock 56 ∷ (outage 56 3 ∷ [])
 
 abbrev pub first-case : Case
-first-case = record { before = plant ∷ []; last = standing 4 (1300 at 4000 ∷ []); number = 16 }
+first-case = record { before = plant ∷ []; last = standing 4 (1300 at 4000 ∷ []); answered = draws 16 }
 
 abbrev pub cases : List Case
 cases =
     -- "Totals 130.0 against 130.0 and 80.0: 16." "70.0: passes."
     first-case
-    ∷ record { before = plant ∷ []; last = standing 4 (700 at 4000 ∷ []); number = 0 }
+    ∷ record { before = plant ∷ []; last = standing 4 (700 at 4000 ∷ []); answered = passes }
     -- "Prices 50.00, 40.00: 13." "40.00, 50.00: passes."
-    ∷ record { before = plant ∷ []; last = standing 4 (100 at 5000 ∷ (100 at 4000 ∷ [])); number = 13 }
-    ∷ record { before = plant ∷ []; last = standing 4 (100 at 4000 ∷ (100 at 5000 ∷ [])); number = 0 }
+    ∷ record { before = plant ∷ []; last = standing 4 (100 at 5000 ∷ (100 at 4000 ∷ [])); answered = draws 13 }
+    ∷ record { before = plant ∷ []; last = standing 4 (100 at 4000 ∷ (100 at 5000 ∷ [])); answered = passes }
     -- "50.0 at 100.00 then 0.0 at 0.00: passes." "0.0 at 50.00: 12.", alone and after another pair
-    ∷ record { before = plant ∷ []; last = standing 4 (500 at 10000 ∷ (0 at 0 ∷ [])); number = 0 }
-    ∷ record { before = plant ∷ []; last = standing 4 (0 at 5000 ∷ []); number = 12 }
-    ∷ record { before = plant ∷ []; last = standing 4 (500 at 4000 ∷ (0 at 5000 ∷ [])); number = 12 }
+    ∷ record { before = plant ∷ []; last = standing 4 (500 at 10000 ∷ (0 at 0 ∷ [])); answered = passes }
+    ∷ record { before = plant ∷ []; last = standing 4 (0 at 5000 ∷ []); answered = draws 12 }
+    ∷ record { before = plant ∷ []; last = standing 4 (500 at 4000 ∷ (0 at 5000 ∷ [])); answered = draws 12 }
     -- "now 55, P 4: 65 left, open." "now 56: 17 without reason." "now 120: 10."
-    ∷ record { before = plant ∷ (clock 55 ∷ []); last = variation 4 0 (300 at 4000 ∷ []); number = 0 }
-    ∷ record { before = plant ∷ (clock 56 ∷ []); last = variation 4 0 (300 at 4000 ∷ []); number = 17 }
-    ∷ record { before = plant ∷ (clock 120 ∷ []); last = variation 4 0 (300 at 4000 ∷ []); number = 10 }
+    ∷ record { before = plant ∷ (clock 55 ∷ []); last = variation 4 0 (300 at 4000 ∷ []); answered = passes }
+    ∷ record { before = plant ∷ (clock 56 ∷ []); last = variation 4 0 (300 at 4000 ∷ []); answered = draws 17 }
+    ∷ record { before = plant ∷ (clock 120 ∷ []); last = variation 4 0 (300 at 4000 ∷ []); answered = draws 10 }
     -- "second pair 30.0 passes; 45.0 and 30.0: 17, the 451st tenth differs."
-    ∷ record { before = gate-shut; last = variation 4 4 (500 at 4000 ∷ (300 at 5000 ∷ [])); number = 0 }
-    ∷ record { before = gate-shut; last = variation 4 4 (450 at 4000 ∷ (300 at 5000 ∷ [])); number = 17 }
+    ∷ record { before = gate-shut; last = variation 4 4 (500 at 4000 ∷ (300 at 5000 ∷ [])); answered = passes }
+    ∷ record { before = gate-shut; last = variation 4 4 (450 at 4000 ∷ (300 at 5000 ∷ [])); answered = draws 17 }
+    -- Taken back before closure: the look-up then answers the standing offer, and 19 where there is none.
+    ∷ record { before = both; last = blank 0; answered = passes }
+    ∷ record { before = both ++ (blank 0 ∷ []); last = look-up 4; answered = reads 0 1 700 }
+    ∷ record { before = varied ++ (blank 0 ∷ []); last = look-up 4; answered = draws 19 }
+    -- Inside the gate: with reason 2, the outage covering P and prices kept; without a reason 17.
+    ∷ record { before = both ++ tripped; last = blank 2; answered = passes }
+    ∷ record { before = both ++ tripped; last = blank 0; answered = draws 17 }
+    ∷ record { before = both ++ (tripped ++ (blank 2 ∷ [])); last = look-up 4; answered = reads 0 1 700 }
+    ∷ record { before = varied ++ (tripped ++ (blank 2 ∷ [])); last = look-up 4; answered = draws 19 }
+    -- What it is compared with is the standing offer: 30.0 at 45.00 against 40.00.
+    ∷ record { before = (plant ∷ (stands ∷ (variation 4 0 (300 at 4500 ∷ []) ∷ []))) ++ tripped; last = blank 2; answered = draws 17 }
+    -- "A blank standing offer still means zero MW": it is in force and counted.
+    ∷ record { before = plant ∷ (standing 4 [] ∷ []); last = look-up 4; answered = reads 0 1 0 }
+    ∷ record { before = plant ∷ (standing 4 [] ∷ []); last = total 4; answered = reads 0 1 0 }
     ∷ []
 
 -- Every row of the table holds.
 unfoldable pub EveryCase : Type 0
-EveryCase = (i : ℕ) → drawn (getD cases i first-case) ≡ getD cases i first-case .number
+EveryCase = (i : ℕ) → answer-in (getD cases i first-case) ≡ getD cases i first-case .answered

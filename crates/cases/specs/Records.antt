@@ -50,6 +50,9 @@ standing slot offer = record-bytes 3 0 0 (pos slot) 0 (pos 0) (pos 0) (pair-word
 abbrev pub variation : ℕ → ℕ → List Pair → List ℕ
 variation period reason offer = record-bytes 4 0 0 (pos period) reason (pos 0) (pos 0) (pair-words offer)
 
+abbrev pub outage : ℕ → ℕ → List ℕ
+outage minute count = record-bytes 5 0 0 (pos 0) 0 (pos minute) (pos count) []
+
 abbrev pub notice : ℕ → ℕ → ℕ → List ℕ
 notice kind first last = record-bytes 6 0 0 (pos 0) kind (pos first) (pos last) []
 

@@ -2,13 +2,10 @@
 use mathlib.Core.Path.{_≡_}
 use mathlib.Core.List.{List, [], _∷_, map}
 use Prim.Native.Nat.{ℕ}
-use lib.IntN.{ℤ, pos}
-use Rattle.offer_rules.specs.Numbers.{word}
-use Rattle.book_rules.specs.Force.{Answer}
 use Rattle.book_rules.specs.Book.{book-answers}
 use Rattle.book_rules.specs.ListMachine.{list-answers}
 use Rattle.cases.specs.Records.{_at_, clock, capability, standing, variation, look-up, total}
-use Rattle.cases.specs.Cases.{limits, fresh-book}
+use Rattle.cases.specs.Cases.{limits, fresh-book, Line, line-of, reads}
 
 -- "capability (kind 1, W1 1,300, W2 800, W12 1); standing slot 4 (500 at 4,000 cents, 200 at 5,000); look-up 4; variation 4 (300 at 4,000);
 -- look-up 4; total 4; look-up 340; clock 1,440; look-up 340"
@@ -25,23 +22,12 @@ records =
     ∷ (look-up 340
     ∷ []))))))))
 
-pub record Line : Type 0 where
-  pub number : ℕ
-  pub word-0 : ℤ
-  pub sum : ℤ
-
-abbrev pub line : Answer → Line
-line a = record { number = a .number; word-0 = word (a .words) 0; sum = a .sum }
-
-abbrev reads : ℕ → ℕ → ℕ → Line
-reads n w z = record { number = n; word-0 = pos w; sum = pos z }
-
 abbrev pub lines : List Line
 lines =
     reads 0 0 0 ∷ (reads 0 0 0 ∷ (reads 0 1 700 ∷ (reads 0 0 0 ∷ (reads 0 2 300 ∷ (reads 0 1 300 ∷ (reads 10 0 0 ∷ (reads 0 0 0 ∷ (reads 0 1 700 ∷ []))))))))
 
 unfoldable pub RunOfBook : Type 0
-RunOfBook = map line (book-answers fresh-book records) ≡ lines
+RunOfBook = map line-of (book-answers fresh-book records) ≡ lines
 
 unfoldable pub RunOfList : Type 0
-RunOfList = map line (list-answers 1 1 limits [] records) ≡ lines
+RunOfList = map line-of (list-answers 1 1 limits [] records) ≡ lines

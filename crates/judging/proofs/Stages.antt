@@ -1,4 +1,4 @@
--- What the code finds held, as the rule has it; and the gate before closure.
+-- What the code finds held and what will stand, as the rule has them; and the gate before closure.
 use mathlib.Core.Path.{_≡_, refl}
 use mathlib.Core.Bool.{true, false, true≢false, false≢true}
 use mathlib.Core.List.{List}
@@ -7,8 +7,10 @@ use Prim.Native.Nat.{ℕ}
 use native.Mathlib.Omega.{arith}
 use lib.IntN.{ℤ}
 use Rattle.offer_rules.specs.Numbers.{draw}
+use Rattle.offer_rules.specs.Time.{slot-of}
+use Rattle.offer_rules.specs.Offer.{Pair, pairs, all-blank}
 use Rattle.offer_rules.specs.Gate.{Grounds, is-open, gate-refuses}
-use Rattle.book_rules.specs.Force.{InForce, first-of}
+use Rattle.book_rules.specs.Force.{View, first-of, variation-made, will-stand, pairs-of}
 use Rattle.book_rules.specs.Refusals.{gate-number}
 use Rattle.cells.specs.declared.InForce as place
 use Rattle.cells.specs.declared.InForce.the-variants.{Nothing, Standing, Variation}
@@ -30,7 +32,17 @@ module _ (w : List ℤ) where
   one-held (Variation at) none e h = let z : _≡_ {A = ℕ} 0 1 = cc e in absurd (omega arith)
   one-held (Variation at) (some l) e h = let z : _≡_ {A = ℕ} 0 1 = cc e in absurd (omega arith)
 
--- Before closure a variation draws no 17, whatever is in force.
-pub open-draws-none : (now : ℕ) (g : Grounds) (s p reason : ℕ) (old : InForce) (o : List ℤ) → is-open now p ≡ true → gate-number now g s p reason old o ≡ 0
+-- What will stand: the sent offer, or, where its pairs are all blank, what stands of the slot.
+module _ (vw : View) (f s p : ℕ) (o : List ℤ) where
+  pub sent-stands : all-blank (pairs o) ≡ false → pairs-of (will-stand vw f s p o) ≡ pairs o
+  unfolding will-stand variation-made first-of pairs-of
+  sent-stands h = rw h
+
+  pub standing-stands : all-blank (pairs o) ≡ true → will-stand vw f s p o ≡ first-of none (vw .standing f s (slot-of p))
+  unfolding will-stand variation-made
+  standing-stands h = rw h
+
+-- Before closure a variation draws no 17, whatever stands before and after.
+pub open-draws-none : (now : ℕ) (g : Grounds) (s p reason : ℕ) (old new : List Pair) → is-open now p ≡ true → gate-number now g s p reason old new ≡ 0
 unfolding gate-number gate-refuses draw
-open-draws-none now g s p reason old o h = rw h
+open-draws-none now g s p reason old new h = rw h

@@ -4,14 +4,13 @@ ghost use mathlib.Core.Path.{_≡_};
 ghost use Prim.Native.Nat.{_+_, _≤_, _<_};
 ghost use lib.ListN.{length};
 ghost use Rattle.offer_rules.specs.Numbers.{toNat, word};
-ghost use Rattle.offer_rules.specs.Offer.{offer-number};
+ghost use Rattle.offer_rules.specs.Offer.{pairs-in, offer-number};
 ghost use Rattle.book_rules.specs.Words.{part, clock-place, limits-place, facility-place};
+ghost use Rattle.book_rules.specs.Force.{in-force, will-stand, pairs-of};
 ghost use Rattle.book_rules.specs.Refusals.{facility-number, gate-number, period-number, admission-number, admitted-standing, admitted-variation, grounds};
 ghost use Rattle.book_rules.specs.Book.{facilities-in, services-in, window-in, book-view};
 ghost use Rattle.gate.specs.Meaning.{window-of, grounds-of};
-ghost use Rattle.cells.specs.Meaning.{meaning, end-of};
 ghost use Rattle.judging.specs.Usable.{Usable};
-use cells::InForce;
 use cells::held_standing;
 use cells::in_force;
 use cells::is_nothing;
@@ -21,10 +20,12 @@ use gate::Grounds;
 use gate::Window;
 use gate::gate_refuses;
 use gate::is_before_closure;
+use layout::cell;
 use layout::facility;
 use layout::head;
 use layout::offer;
 use layout::refusal;
+use offers::is_all_blank;
 use refusals::draw_if;
 use refusals::first_drawn;
 use units::nat;
@@ -171,18 +172,59 @@ fn grounds_of(book: &[i32], f: usize) -> Grounds
     }
 }
 
-// 17, over the offer in force.
+// The pairs of the offer in force before the call, "old".
+fn pairs_before(book: &[i32], f: usize, service: u8, period: usize) -> &[i32]
+    requires { ⌜ Usable (now book) × (f < facilities-in (now book)) × (service < services-in (now book)) × (period < 2147483647) ⌝ }
+    ensures { λ r. ⌜ (pairs-in (now r) ≡ pairs-of (in-force (book-view (now (book .entry))) f service period)) × (length (now r) ≤ 20) ⌝ }
+{
+    let old = in_force(
+        book,
+        facilities(book),
+        services(book),
+        f,
+        wide(service),
+        period,
+    );
+    pairs_of(book, old)
+}
+
+// The pairs of "the offer that will stand afterwards": the sent one, or where it is all blank the standing one, if there is any.
+fn pairs_afterwards<'a>(
+    book: &'a [i32],
+    f: usize,
+    service: u8,
+    period: usize,
+    offer: &'a [i32],
+) -> &'a [i32]
+    requires { ⌜ Usable (now book) × (f < facilities-in (now book)) × (service < services-in (now book)) × (length (now offer) ≡ 23) ⌝ }
+    ensures { λ r. ⌜ (pairs-in (now r) ≡ pairs-of (will-stand (book-view (now (book .entry))) f service period (now (offer .entry)))) × (length (now r) ≤ 20) ⌝ }
+{
+    if !is_all_blank(offer) {
+        return &offer[offer::PAIRS..];
+    }
+    let standing = held_standing(
+        book,
+        facilities(book),
+        services(book),
+        f,
+        wide(service),
+        period % cell::SLOTS,
+    );
+    pairs_of(book, standing)
+}
+
+// 17, with the pairs of old and new.
 fn gate_number(
     book: &[i32],
     f: usize,
     service: u8,
     period: usize,
     reason: u8,
-    old: InForce,
-    offer: &[i32],
+    old: &[i32],
+    new: &[i32],
 ) -> u8
-    requires { ⌜ Usable (now book) × (f < facilities-in (now book)) × (end-of old ≤ length (now book)) × (period < 2147483647) × (length (now offer) ≡ 23) ⌝ }
-    ensures { λ r. ⌜ (r ≡ gate-number (toNat (word (now (book .entry)) clock-place)) (grounds (book-view (now (book .entry))) f) service period reason (meaning (now (book .entry)) old) (now (offer .entry))) × (r ≤ 17) ⌝ }
+    requires { ⌜ Usable (now book) × (f < facilities-in (now book)) × (period < 2147483647) × (length (now old) ≤ 20) × (length (now new) ≤ 20) ⌝ }
+    ensures { λ r. ⌜ (r ≡ gate-number (toNat (word (now (book .entry)) clock-place)) (grounds (book-view (now (book .entry))) f) service period reason (pairs-in (now (old .entry))) (pairs-in (now (new .entry)))) × (r ≤ 17) ⌝ }
 {
     let refuses = gate_refuses(
         clock(book),
@@ -190,20 +232,20 @@ fn gate_number(
         service,
         period as u64,
         reason,
-        pairs_of(book, old),
-        &offer[offer::PAIRS..],
+        old,
+        new,
     );
     draw_if(refuses, refusal::GATE_CLOSED)
 }
 
-// 11 to 17 of a variation that is admitted. Before closure, where most are filed, the offer in force is not looked up.
-pub fn admitted_variation(
-    book: &[i32],
+// 11 to 17 of a variation that is admitted. Before closure, where most are filed, no offer is looked up.
+pub fn admitted_variation<'a>(
+    book: &'a [i32],
     f: usize,
     service: u8,
     period: usize,
     reason: u8,
-    offer: &[i32],
+    offer: &'a [i32],
 ) -> u8
     requires { ⌜ Usable (now book) × (f < facilities-in (now book)) × (service < services-in (now book)) × (period < 2147483647) × (length (now offer) ≡ 23) ⌝ }
     ensures { λ r. ⌜ (r ≡ admitted-variation (book-view (now (book .entry))) f service period reason (now (offer .entry))) × (r ≤ 17) ⌝ }
@@ -215,13 +257,7 @@ pub fn admitted_variation(
     if is_before_closure(clock(book), period as u64) {
         return 0;
     }
-    let old = in_force(
-        book,
-        facilities(book),
-        services(book),
-        f,
-        wide(service),
-        period,
-    );
-    gate_number(book, f, service, period, reason, old, offer)
+    let old = pairs_before(book, f, service, period);
+    let new = pairs_afterwards(book, f, service, period, offer);
+    gate_number(book, f, service, period, reason, old, new)
 }

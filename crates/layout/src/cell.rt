@@ -19,4 +19,6 @@ pub const STANDING_HALF: usize = 0;
 
 pub const VARIATION_HALF: usize = 1;
 
+pub const EMPTY_STAMP: u32 = 0;
+
 pub const STANDING_STAMP: u32 = 1;

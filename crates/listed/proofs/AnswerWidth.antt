@@ -4,26 +4,19 @@ use mathlib.Core.Path.{_≡_, refl, ap}
 use mathlib.Core.Bool.{Bool, true, false, cond}
 use mathlib.Core.List.{List, [], _∷_}
 use mathlib.Core.Option.{Option, none, some}
-use Prim.Native.Nat.{ℕ, zero, suc, _+_}
+use Prim.Native.Nat.{ℕ, suc}
 use native.Mathlib.Omega.{arith}
 use lib.Dec.{eqb}
 use lib.IntN.{ℤ}
 use lib.ListN.{length, length-append}
 use Rattle.offer_rules.specs.Numbers.{toNat}
-use Rattle.book_rules.specs.Record.{call-of, facility-of, service-of, period-word, words-at, offer-in}
-use Rattle.book_rules.specs.Force.{Answer, first-of, in-force, plain, found-words, found, totalled}
+use Rattle.offer_rules.specs.Offer.{pairs, all-blank}
+use Rattle.book_rules.specs.Record.{call-of, facility-of, service-of, period-word, offer-in}
+use Rattle.book_rules.specs.Force.{Answer, first-of, in-force, variation-made, plain, found-words, found, totalled}
 use Rattle.book_rules.specs.Refusals.{look-up-reply, total-reply, reply, number, answer}
 use Rattle.book_rules.specs.ListMachine.{newest, list-standing, list-variation, list-view, list-accept, list-answer}
+use Rattle.book_rules.proofs.Calls.{length-offer}
 use Rattle.listed.specs.ListAnswered.{numbers-of, TwentySixEach}
-
-length-words-at : (n : ℕ) (b : List ℕ) (i : ℕ) → length (words-at b i n) ≡ n
-unfolding words-at
-length-words-at zero b i = refl
-length-words-at (suc n) b i = ap suc (length-words-at n b (i + 4))
-
-length-offer : (c : List ℕ) → length (offer-in c) ≡ 23
-unfolding offer-in
-length-offer c = ap (λ (n : ℕ). suc (suc (suc n))) (length-words-at 20 c 32)
 
 -- How many words an offer has; 23 where there is none.
 width-of : Option (List ℤ) → ℕ
@@ -34,10 +27,18 @@ chosen-width : (t : Bool) (x y : Option (List ℤ)) → width-of x ≡ 23 → wi
 chosen-width true x y hx hy = hx
 chosen-width false x y hx hy = hy
 
-newest-width : (test : List ℕ → Bool) (l : List (List ℕ)) → width-of (newest test (λ c. some (offer-in c)) none l) ≡ 23
+newest-width : (test : List ℕ → Bool) (says : List ℕ → Option (List ℤ)) (l : List (List ℕ)) → ((c : List ℕ) → width-of (says c) ≡ 23) → width-of (newest test says none l) ≡ 23
 unfolding newest width-of
-newest-width test [] = refl
-newest-width test (c ∷ l) = chosen-width (test c) (some (offer-in c)) (newest test (λ c. some (offer-in c)) none l) (length-offer c) (newest-width test l)
+newest-width test says [] h = refl
+newest-width test says (c ∷ l) h = chosen-width (test c) (says c) (newest test says none l) (h c) (newest-width test says l h)
+
+carried-width : (c : List ℕ) → width-of (some (offer-in c)) ≡ 23
+unfolding width-of
+carried-width c = length-offer c
+
+made-width : (c : List ℕ) → width-of (variation-made (offer-in c)) ≡ 23
+unfolding variation-made width-of
+made-width c = chosen-width (all-blank (pairs (offer-in c))) none (some (offer-in c)) refl (length-offer c)
 
 found-width : (v s : Option (List ℤ)) → width-of v ≡ 23 → width-of s ≡ 23 → length (found-words (first-of v s)) ≡ 24
 unfolding first-of found-words width-of
@@ -56,7 +57,7 @@ plain-width n = refl
 module _ (F S : ℕ) (limits : List ℤ) (l : List (List ℕ)) where
   look-up-width : (f s p : ℕ) → length (look-up-reply (list-view F S limits l) f s p .words) ≡ 24
   unfolding look-up-reply found in-force list-view list-standing list-variation
-  look-up-width f s p = found-width _ _ (newest-width _ l) (newest-width _ l)
+  look-up-width f s p = found-width _ _ (newest-width _ _ l made-width) (newest-width _ _ l carried-width)
 
   total-width : (s p : ℕ) → length (total-reply (list-view F S limits l) s p .words) ≡ 24
   unfolding total-reply totalled

@@ -16,6 +16,7 @@ use layout::fields;
 use layout::refusal;
 use layout::time;
 use pairs::findings_of;
+pub use pairs::is_all_blank;
 pub use pairs::sum_of;
 use units::first;
 use units::is_beyond;

@@ -6,7 +6,7 @@ ghost use Prim.Native.Nat.{_*_, _≤_};
 ghost use lib.IntN.{pos, natAbs, _+ℤ_};
 ghost use lib.ListN.{length, drop};
 ghost use Rattle.offer_rules.specs.Numbers.{any-beyond};
-ghost use Rattle.offer_rules.specs.Offer.{pairs-in, pairs, sum-of, lowest-price, highest-price};
+ghost use Rattle.offer_rules.specs.Offer.{pairs-in, pairs, all-blank, sum-of, lowest-price, highest-price};
 ghost use Rattle.units.specs.Typed.{price-of};
 ghost use Rattle.offers.specs.PairTests.{blank, is-out-of-range, still-rises, with-blank, with-filled, with-pair, found-from, found-in, do-five-suffice};
 use layout::facility;
@@ -55,6 +55,26 @@ pub fn is_blank(quantity: Quantity) -> bool
     ensures { λ r. ⌜ r ≡ blank quantity ⌝ }
 {
     is_zero(quantity.0)
+}
+
+fn all_blank(pairs: &[i32]) -> bool
+    requires { ⌜ length (now pairs) ≡ 20 ⌝ }
+    ensures { λ r. ⌜ r ≡ all-blank (pairs-in (now (pairs .entry))) ⌝ }
+{
+    for i in 0..offer::PAIR_COUNT {
+        if !is_blank(quantity_at(pairs, 2 * i + 1)) {
+            return false;
+        }
+    }
+    true
+}
+
+// An offer "whose pairs are all blank".
+pub fn is_all_blank(offer: &[i32]) -> bool
+    requires { ⌜ length (now offer) ≡ 23 ⌝ }
+    ensures { λ r. ⌜ r ≡ all-blank (pairs (now (offer .entry))) ⌝ }
+{
+    all_blank(&offer[offer::PAIRS..])
 }
 
 // 11 "quantity outside 0–99,999, price outside its limits"

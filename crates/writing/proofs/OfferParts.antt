@@ -1,18 +1,19 @@
--- An offer's number in two parts: 5, 9 and 10, and what it draws once it is admitted; and what its call then answers and leaves.
+-- An offer's number in two parts: 5, 9 and 10, and what it draws once it is admitted; what its call then answers and leaves; and a variation's cell.
 use mathlib.Core.Path.{_≡_, sym, _∙_}
-use mathlib.Core.Bool.{Bool, cond}
+use mathlib.Core.Bool.{Bool, true, false, cond}
 use mathlib.Core.List.{List}
 use Prim.Native.Nat.{ℕ, zero, suc, _≤_}
 use native.Mathlib.Omega.{arith}
 use lib.Dec.{eqb}
 use lib.IntN.{ℤ}
 use borrow.Author.Tests.{ne-eqb}
-use Rattle.offer_rules.specs.Numbers.{toNat, word, _then_}
+use Rattle.offer_rules.specs.Numbers.{toNat, word, zeros, _then_}
 use Rattle.offer_rules.specs.Time.{slot-refused, period-refused}
+use Rattle.offer_rules.specs.Offer.{pairs, all-blank}
 use Rattle.units.proofs.Chains.{then-none, then-drawn}
 use Rattle.book_rules.specs.Record.{call-of, facility-of, service-of, period-word, reason-of, offer-in}
-use Rattle.book_rules.specs.Words.{part, clock-place, facility-place}
-use Rattle.book_rules.specs.Force.{plain}
+use Rattle.book_rules.specs.Words.{part, clock-place, facility-place, cell, holding}
+use Rattle.book_rules.specs.Force.{plain, variation-made}
 use Rattle.book_rules.specs.Refusals.{judge, admission-number, admitted-standing, admitted-variation, standing-number, variation-number}
 use Rattle.book_rules.specs.Book.{book-view, book-accept}
 use Rattle.book_rules.proofs.Calls.{judge-standing, judge-variation}
@@ -35,7 +36,7 @@ module _ (w : List ℤ) (b : List ℕ) (t : Tested w b) (admission rest : ℕ) (
 
 -- 5, 9 and 10 of the offer that a record carries.
 abbrev pub admission-of : List ℤ → List ℕ → Bool → ℕ
-admission-of w b refused = admission-number (part (facility-place (facility-of b)) 17 w) (service-of b) refused
+admission-of w b is-refused = admission-number (part (facility-place (facility-of b)) 17 w) (service-of b) is-refused
 
 module _ (w : List ℤ) (b : List ℕ) where
   pub standing-parts : call-of b ≡ 3
@@ -48,3 +49,13 @@ module _ (w : List ℤ) (b : List ℕ) where
       ≡ (admission-of w b (period-refused (toNat (word w clock-place)) (period-word b)) then admitted-variation (book-view w) (facility-of b) (service-of b) (toNat (period-word b)) (reason-of b) (offer-in b))
   unfolding variation-number book-view
   variation-parts c = judge-variation (book-view w) b c
+
+-- A variation's cell: empty where its pairs are all blank, else stamped.
+module _ (stamp : ℕ) (o : List ℤ) where
+  pub empty-cell : all-blank (pairs o) ≡ true → cell 0 (zeros 23) ≡ holding stamp (variation-made o)
+  unfolding cell holding variation-made
+  empty-cell h = rw h
+
+  pub stamped-cell : all-blank (pairs o) ≡ false → cell stamp o ≡ holding stamp (variation-made o)
+  unfolding holding variation-made
+  stamped-cell h = rw h

@@ -8,9 +8,9 @@ ghost use lib.ListN.{length};
 ghost use Rattle.offer_rules.specs.Numbers.{toNat, word};
 ghost use Rattle.offer_rules.specs.Time.{slot-refused, period-refused};
 ghost use Rattle.book_rules.specs.Record.{call-of, period-word};
-ghost use Rattle.book_rules.specs.Words.{clock-place};
+ghost use Rattle.book_rules.specs.Words.{clock-place, cell};
 ghost use Rattle.book_rules.specs.Force.{plain};
-ghost use Rattle.book_rules.specs.Book.{facilities-in, services-in, file-offer, book-answer, book-after};
+ghost use Rattle.book_rules.specs.Book.{facilities-in, services-in, write-cell, file-variation, book-answer, book-after};
 ghost use Rattle.judging.specs.Usable.{Usable};
 ghost use Rattle.judging.specs.Tested.{Tested, Facility, Place, Admitted};
 use cells::store_offer;
@@ -31,7 +31,7 @@ use layout::fields;
 use layout::head;
 use layout::offer;
 use layout::refusal;
-use layout::time;
+use offers::is_all_blank;
 use offers::is_period_refused;
 use offers::is_slot_refused;
 use record::capability_in;
@@ -39,8 +39,6 @@ use record::read_offer;
 use record::word_at;
 use refusals::first_drawn;
 use units::nat;
-
-const SLOTS: usize = time::SLOTS as usize;
 
 // 6; files the minute.
 pub fn clock_call(book: &mut [i32], bytes: &[u8]) -> u8
@@ -98,7 +96,7 @@ fn file_offer(
     number: u8,
 ) -> u8
     requires { ⌜ Usable (now book) × (f < facilities-in (now book)) × (service < services-in (now book)) × (half < 2) × (slot < 336) × (stamp < 2147483648) × (length (now offer) ≡ 23) ⌝ }
-    ensures { λ r. ⌜ (r ≡ number) × (now (book .exit) ≡ cond (eqb number 0) (file-offer (now (book .entry)) f service half slot stamp (now (offer .entry))) (now (book .entry))) ⌝ }
+    ensures { λ r. ⌜ (r ≡ number) × (now (book .exit) ≡ cond (eqb number 0) (write-cell (now (book .entry)) f service half slot (cell stamp (now (offer .entry)))) (now (book .entry))) ⌝ }
 {
     if number != 0 {
         return number;
@@ -154,7 +152,49 @@ pub fn standing_call(book: &mut [i32], bytes: &[u8]) -> u8
     stand(book, bytes)
 }
 
-// 11 to 17 of a variation that is admitted; files one cell. "The slot of P is P mod 336."
+// Where the pairs are all blank, the cell "becomes 24 zeros". "The slot of P is P mod 336."
+fn file_variation(
+    book: &mut [i32],
+    f: usize,
+    service: u8,
+    period: usize,
+    offer: &[i32],
+    number: u8,
+) -> u8
+    requires { ⌜ Usable (now book) × (f < facilities-in (now book)) × (service < services-in (now book)) × (period < 2147483647) × (length (now offer) ≡ 23) ⌝ }
+    ensures { λ r. ⌜ (r ≡ number) × (now (book .exit) ≡ cond (eqb number 0) (file-variation (now (book .entry)) f service period (now (offer .entry))) (now (book .entry))) ⌝ }
+{
+    if number != 0 {
+        return number;
+    }
+    let slot = period % cell::SLOTS;
+    let stamp = (period + 1) as u32;
+    if is_all_blank(offer) {
+        let none = [0i32; offer::WORDS];
+        return file_offer(
+            book,
+            f,
+            service,
+            cell::VARIATION_HALF,
+            slot,
+            cell::EMPTY_STAMP,
+            &none,
+            number,
+        );
+    }
+    file_offer(
+        book,
+        f,
+        service,
+        cell::VARIATION_HALF,
+        slot,
+        stamp,
+        offer,
+        number,
+    )
+}
+
+// 11 to 17 of a variation that is admitted; files one cell.
 fn vary(book: &mut [i32], bytes: &[u8]) -> u8
     requires { ⌜ Admitted (now book) (now bytes) 4 (period-refused (toNat (word (now book) clock-place)) (period-word (now bytes))) ⌝ }
     ensures { λ r. ⌜ (plain r ≡ book-answer (now (book .entry)) (now (bytes .entry))) × (now (book .exit) ≡ book-after (now (book .entry)) (now (bytes .entry))) ⌝ }
@@ -165,16 +205,7 @@ fn vary(book: &mut [i32], bytes: &[u8]) -> u8
     let mut offer = [0i32; offer::WORDS];
     read_offer(bytes, &mut offer);
     let number = admitted_variation(book, f, service, period, bytes[fields::REASON], &offer);
-    file_offer(
-        book,
-        f,
-        service,
-        cell::VARIATION_HALF,
-        period % SLOTS,
-        (period + 1) as u32,
-        &offer,
-        number,
-    )
+    file_variation(book, f, service, period, &offer, number)
 }
 
 // 5, 9 and 10 before the offer is read, as of a standing offer.

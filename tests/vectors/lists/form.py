@@ -1,8 +1,10 @@
 """Records, places in the book's words and lines of the text form, for the lists of the other modules here (tests/vectors/README.md).
 
-Each line is written with the number that document 01 gives it, and each look-up and total with its word 0 and sum, as the list's
-author read the paper. make.py compares them with the answers.
+Each line is written with the number that the papers give it, and each look-up and total with its word 0 and sum, as the list's
+author read them. make.py compares them with the answers.
 """
+
+LEVEL = 1  # document 02's requests up to K1
 
 LIMITS = (-450000, 450000, 400000, 400001, 400002, 400003)
 
@@ -107,6 +109,7 @@ class Script:
         self.ids = []
         self.lines = []   # questions
         self.stated = []  # for each line a pattern of its answer; None for a comment
+        self.equal = {}   # lines by a name that says they are answered alike
 
     def list(self, identity, sentence):
         assert ' ' not in identity and sentence.endswith('.') and sentence.isascii()
@@ -118,7 +121,7 @@ class Script:
         self.stated.append(stated)
 
     def open(self, F, S, limits=LIMITS, past=0, number=0):
-        self._line(f'open 0 {F} {S} {" ".join(map(str, limits))} {past} =', str(number))
+        self._line(f'open {LEVEL} {F} {S} {" ".join(map(str, limits))} {past} =', str(number))
 
     def call(self, r, number=0, first=0, sum=0):
         self._line(f'call {r.hex() or "-"} =', rf'{number} {first}( -?\d+){{23}} {sum}')
@@ -129,5 +132,8 @@ class Script:
     def write(self, words):
         self._line('write ' + ' '.join(f'{i} {value}' for i, value in words.items()) + ' =', '')
 
-    def words(self):
+    def words(self, equal=None):
+        """Words that are stated to be the same as at every other line of the file with this name."""
+        if equal is not None:
+            self.equal.setdefault(equal, []).append(len(self.lines))
         self._line('words =', r'\d+')

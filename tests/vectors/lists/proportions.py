@@ -65,12 +65,14 @@ def proportion_in_a_duplicate(t):
 
 
 def blank_offer_needs_a_proportion(t):
-    """An all-blank reserve offer of generation with proportion 0 draws 15; with 1 it passes and is in force with sum 0."""
+    """An all-blank reserve offer of generation with proportion 0 draws 15; with 1 it passes, and a standing one is in force with sum 0."""
     t.open(1, 5)
     t.call(capability(0, GENERATION))
     for s in (1, 2, 3):
         t.call(standing(0, s, 60), 15)
         t.call(variation(0, s, 60), 15)
+        t.call(variation(0, s, 60, [], 0, 1))
+        t.call(look_up(0, s, 60), 19)
         t.call(standing(0, s, 60, [], 1))
         t.call(look_up(0, s, 60), 0, 1, 0)
         t.call(total(s, 60), 0, 1, 0)

@@ -25,8 +25,8 @@ def _over(t, held):
     t.call(clock(60))
     for f, (pairs, number) in enumerate(TRIES):
         t.call(variation(f, 0, 4, pairs, 1), number)
-    accepted = [sum(p[1] for p in (pairs.values() if isinstance(pairs, dict) else pairs) if p) for pairs, number in TRIES if number == 0]
-    t.call(total(0, 4), 0, len(TRIES), sum(accepted) + 700 * (len(TRIES) - len(accepted)))
+    varied = [sum(p[1] for p in (pairs.values() if isinstance(pairs, dict) else pairs) if p) for pairs, number in TRIES if number == 0 and pairs]
+    t.call(total(0, 4), 0, len(TRIES), sum(varied) + 700 * (len(TRIES) - len(varied)))
     t.words()
 
 
@@ -115,12 +115,13 @@ def standing_and_variation_apart(t):
     t.call(look_up(0, 0, 60), 0, 2, 5)
     t.call(variation(0, 0, 60, [(2, 7)]))
     t.call(variation(0, 0, 60))
-    t.call(look_up(0, 0, 60), 0, 2, 0)
-    t.call(total(0, 60), 0, 1, 0)
+    t.call(look_up(0, 0, 60), 0, 1, 6)
+    t.call(total(0, 60), 0, 1, 6)
+    t.call(variation(0, 0, 60, [(2, 1)]))
     t.call(standing(0, 0, 60, [(1, 8)]))
-    t.call(look_up(0, 0, 60), 0, 2, 0)
+    t.call(look_up(0, 0, 60), 0, 2, 1)
     t.call(clock(1440))
-    t.call(look_up(0, 0, 60), 0, 2, 0)
+    t.call(look_up(0, 0, 60), 0, 2, 1)
     t.call(clock(3600))
     t.call(look_up(0, 0, 60 + 336), 0, 1, 8)
     t.call(look_up(1, 0, 60 + 336), 5)
@@ -251,7 +252,7 @@ def no_old_offer_inside_the_gate(t):
     t.call(variation(0, 0, 1, [(7, 1)], 4))
     t.call(variation(1, 0, 1, [(9, 2)], 5))
     t.call(variation(2, 0, 1, [], 1))
-    t.call(look_up(2, 0, 1), 0, 2, 0)
+    t.call(look_up(2, 0, 1), 19)
     t.call(variation(2, 0, 1, [(3, 3)], 4))
     t.call(variation(2, 0, 1, [(3, 2)], 3))
     t.call(variation(2, 0, 1, [], 3))
@@ -334,9 +335,11 @@ def an_earlier_variation_is_the_old(t):
     t.call(variation(0, 0, 100, [(1, 61)], 4), 17)
     t.call(variation(0, 0, 100, [(2, 61)], 4))
     t.call(variation(0, 0, 100, [(2, 61)], 4), 17)
-    t.call(variation(0, 0, 100, [], 1))
-    t.call(variation(0, 0, 100, [(9, 1)], 4))
-    t.call(look_up(0, 0, 100), 0, 2, 1)
+    t.call(variation(0, 0, 100, [], 1), 17)
+    t.call(variation(0, 0, 100, [(9, 1)], 4), 17)
+    t.call(variation(0, 0, 100, [(2, 1)], 1))
+    t.call(variation(0, 0, 100, [(2, 1), (9, 1)], 4))
+    t.call(look_up(0, 0, 100), 0, 2, 2)
     t.words()
 
 

@@ -1,16 +1,16 @@
 use borrow.Author.Needs.{needs}
 use Rattle.judging.proofs.admitted_variation.Statement.{statement}
 use Rattle.judging.proofs.admitted_variation.Tie as tie
-use mathlib.Core.Path.{_≡_, sym, _∙_, ap}
+use mathlib.Core.Path.{_≡_, sym, _∙_, ap, ap₂}
 use mathlib.Core.Bool.{true}
+use mathlib.Core.List.{List}
 use Prim.Native.Nat.{ℕ}
 use native.Mathlib.Omega.{arith}
 use Rattle.offer_rules.specs.Numbers.{toNat, word}
-use Rattle.offer_rules.specs.Offer.{offer-number}
+use Rattle.offer_rules.specs.Offer.{Pair, offer-number}
 use Rattle.offer_rules.specs.Gate.{is-open}
 use Rattle.units.proofs.Chains.{then-none, then-drawn}
 use Rattle.book_rules.specs.Words.{part, clock-place, limits-place, facility-place}
-use Rattle.book_rules.specs.Force.{InForce, in-force}
 use Rattle.book_rules.specs.Refusals.{grounds, gate-number, admitted-variation}
 use Rattle.book_rules.specs.Book.{book-view}
 use Rattle.judging.proofs.Stages.{open-draws-none}
@@ -44,23 +44,15 @@ returns-2 c =
     let is-before : is-open (toNat (word w clock-place)) p ≡ true =
     sym (c .before .is-before-closure .ensures ∙ ap (λ (n : ℕ). is-open n p) (c .before .before .clock .ensures .0)) ∙ c .if2 .taken in (
       sym (then-none _ _ (passed (c .before .before .before))
-          ∙ open-draws-none (toNat (word w clock-place)) (grounds (book-view w) (s .args .f)) (s .args .service) p (s .args .reason) (in-force (book-view w) (s .args .f) (s .args .service) p) (s .args .offer .now) is-before),
+          ∙ open-draws-none (toNat (word w clock-place)) (grounds (book-view w) (s .args .f)) (s .args .service) p (s .args .reason) _ _ is-before),
       omega arith,
     )
 
-facilities-requires : tie.Need-facilities-requires
-facilities-requires c κs = search needs
+pairs-before-requires : tie.Need-pairs-before-requires
+pairs-before-requires c κs = search needs
 
-services-requires : tie.Need-services-requires
-services-requires c κs = search needs
-
-wide-requires : tie.Need-wide-requires
-wide-requires c κs = search needs
-
-in-force-requires : tie.Need-in-force-requires
-in-force-requires c κs =
-    let s = c .before .before .before .before .before .before .before .before in
-    rw (c .before .before .facilities .ensures, c .before .services .ensures, c .wide .ensures) (s .pre .0 .sized, s .pre .1, s .pre .2, s .pre .3)
+pairs-afterwards-requires : tie.Need-pairs-afterwards-requires
+pairs-afterwards-requires c κs = search needs
 
 gate-number-requires : tie.Need-gate-number-requires
 gate-number-requires c κs = search needs
@@ -68,14 +60,12 @@ gate-number-requires c κs = search needs
 returns-3 : tie.Need-returns-3
 unfolding admitted-variation book-view
 returns-3 c =
-    let e = c .before .before .before .before .before .before .before .before in
+    let e = c .before .before .before .before .before .before in
     let s = e .before .before in
-    let w = s .args .book .now in
-    let f = s .args .f in
-    let p = s .args .period in (
+    let w = s .args .book .now in (
       c .gate-number .ensures .0
-          ∙ ap (λ (x : InForce). gate-number (toNat (word w clock-place)) (grounds (book-view w) f) (s .args .service) p (s .args .reason) x (s .args .offer .now))
-          (c .before .in-force .ensures .0 ∙ ap (λ (n : ℕ). in-force (book-view w) f n p) (c .before .before .wide .ensures))
+          ∙ ap₂ (λ (old new : List Pair). gate-number (toNat (word w clock-place)) (grounds (book-view w) (s .args .f)) (s .args .service) (s .args .period) (s .args .reason) old new)
+          (c .before .before .pairs-before .ensures .0) (c .before .pairs-afterwards .ensures .0)
           ∙ sym (then-none _ _ (passed e)),
       c .gate-number .ensures .1,
     )
@@ -89,9 +79,7 @@ admitted-variation-spec =
     clock-requires
     is-before-closure-requires
     returns-2
-    facilities-requires
-    services-requires
-    wide-requires
-    in-force-requires
+    pairs-before-requires
+    pairs-afterwards-requires
     gate-number-requires
     returns-3)

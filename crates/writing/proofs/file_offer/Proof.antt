@@ -3,7 +3,7 @@ use Rattle.writing.proofs.file_offer.Statement.{statement}
 use Rattle.writing.proofs.file_offer.Tie as tie
 use mathlib.Core.Path.{refl, sym, _∙_}
 use borrow.Author.Tests.{ne-eqb}
-use Rattle.book_rules.specs.Book.{file-offer}
+use Rattle.book_rules.specs.Book.{write-cell}
 
 returns : tie.Need-returns
 returns c = (refl, rw (ne-eqb (c .before .args .number) 0 (c .if1 .taken)))
@@ -27,7 +27,7 @@ same-length : tie.Need-same-length
 same-length c = search needs
 
 returns-2 : tie.Need-returns-2
-unfolding file-offer
+unfolding write-cell
 returns-2 c =
     let d = c .before .before in
     let s = d .before .before .before .before .before .before .before in (

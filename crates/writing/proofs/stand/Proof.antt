@@ -9,8 +9,8 @@ use mir.Facts.{toZ-ofZ}
 use Rattle.offer_rules.specs.Numbers.{toNat}
 use Rattle.offer_rules.proofs.Periods.{slot-is}
 use Rattle.book_rules.specs.Record.{service-of, period-word}
-use Rattle.book_rules.specs.Words.{standing-half, standing-stamp}
-use Rattle.book_rules.specs.Book.{file-offer}
+use Rattle.book_rules.specs.Words.{standing-half, standing-stamp, cell}
+use Rattle.book_rules.specs.Book.{write-cell}
 use Rattle.book_rules.proofs.Calls.{length-offer}
 use Rattle.book_rules.proofs.OneCall.{accept-standing}
 use Rattle.book_rules.proofs.Rules.{admitted}
@@ -78,7 +78,7 @@ returns c =
     let call = s .pre .place .call-is in
     rw (x .ensures .0, x .ensures .1)
     (judged w b (s .pre .place .tested) _ _ (standing-parts w b call) 3 call (omega arith) (s .pre .is-admitted) (n .result) (rw (n .ensures .0, f .ensures, count p, o .ensures))
-    (file-offer w (f .result) (service-of b) standing-half (p .nat .result) standing-stamp (o .last .1 .0))
+    (write-cell w (f .result) (service-of b) standing-half (p .nat .result) (cell standing-stamp (o .last .1 .0)))
     (rw (f .ensures, count p, o .ensures) (sym (accept-standing w b call))))
 
 pub stand-spec : {M : Type 1} → statement M

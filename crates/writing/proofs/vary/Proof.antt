@@ -7,11 +7,10 @@ use native.Mathlib.Omega.{arith}
 use mir.Syntax.{w32}
 use mir.Facts.{toZ-ofZ}
 use Rattle.offer_rules.specs.Numbers.{toNat, word}
-use Rattle.offer_rules.specs.Time.{slot-of}
 use Rattle.offer_rules.proofs.Periods.{period-is}
 use Rattle.book_rules.specs.Record.{service-of, period-word}
-use Rattle.book_rules.specs.Words.{clock-place, variation-half, variation-stamp}
-use Rattle.book_rules.specs.Book.{file-offer}
+use Rattle.book_rules.specs.Words.{clock-place}
+use Rattle.book_rules.specs.Book.{file-variation}
 use Rattle.book_rules.proofs.Calls.{length-offer}
 use Rattle.book_rules.proofs.OneCall.{accept-variation}
 use Rattle.book_rules.proofs.Rules.{admitted}
@@ -59,27 +58,21 @@ admitted-variation-requires c κs =
     rw (c .before .before .before .before .before .before .before .before .before .wide .ensures, count (c .before .before .before .before .before .before), c .before .before .before .before .read-offer .ensures)
     (s .pre .place .tested .usable, s .pre .place .facility-in, s .pre .place .service-in, omega (arith, period-in s), length-offer (s .args .bytes .now))
 
-add-file-offer : tie.Need-add-file-offer
-add-file-offer c = search needs
+slice-aggregate-file-variation : tie.Need-slice-aggregate-file-variation
+slice-aggregate-file-variation c = search needs
 
-cast-file-offer : tie.Need-cast-file-offer
-cast-file-offer c = search needs
-
-slice-aggregate-file-offer : tie.Need-slice-aggregate-file-offer
-slice-aggregate-file-offer c = search needs
-
-file-offer-requires : tie.Need-file-offer-requires
-file-offer-requires c κs =
+file-variation-requires : tie.Need-file-variation-requires
+file-variation-requires c κs =
     let s = c .before .before .before .before .before .before .before .before .before .before .before .before .before .before .before in
     rw (c .before .before .before .before .before .before .before .before .before .before .before .before .wide .ensures, count (c .before .before .before .before .before .before .before .before .before), c .before .before .before .before .before .before .before .read-offer .ensures)
-    (s .pre .place .tested .usable, s .pre .place .facility-in, s .pre .place .service-in, omega arith, omega arith, omega (arith, period-in s), length-offer (s .args .bytes .now))
+    (s .pre .place .tested .usable, s .pre .place .facility-in, s .pre .place .service-in, omega (arith, period-in s), length-offer (s .args .bytes .now))
 
 same-length : tie.Need-same-length
 same-length c = search needs
 
 returns : tie.Need-returns
 returns c =
-    let x = c .before .file-offer in
+    let x = c .before .file-variation in
     let n = c .before .before .before .before .admitted-variation in
     let o = c .before .before .before .before .before .before .before .before .before .read-offer in
     let p = c .before .before .before .before .before .before .before .before .before .before .before in
@@ -90,7 +83,7 @@ returns c =
     let call = s .pre .place .call-is in
     rw (x .ensures .0, x .ensures .1)
     (judged w b (s .pre .place .tested) _ _ (variation-parts w b call) 4 call (omega arith) (s .pre .is-admitted) (n .result) (rw (n .ensures .0, f .ensures, count p, o .ensures))
-    (file-offer w (f .result) (service-of b) variation-half (slot-of (p .nat .result)) (variation-stamp (p .nat .result)) (o .last .1 .0))
+    (file-variation w (f .result) (service-of b) (p .nat .result) (o .last .1 .0))
     (rw (f .ensures, count p, o .ensures) (sym (accept-variation w b call))))
 
 pub vary-spec : {M : Type 1} → statement M
@@ -107,9 +100,7 @@ vary-spec =
     shared-slice-read-admitted-variation
     slice-aggregate-admitted-variation
     admitted-variation-requires
-    add-file-offer
-    cast-file-offer
-    slice-aggregate-file-offer
-    file-offer-requires
+    slice-aggregate-file-variation
+    file-variation-requires
     same-length
     returns)

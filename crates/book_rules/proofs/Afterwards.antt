@@ -1,0 +1,107 @@
+-- "the offer that will stand afterwards" does: it is the one in force for the period of an accepted variation once that is filed.
+use mathlib.Core.Path.{_≡_, refl, sym, _∙_, ap, ap₂}
+use mathlib.Core.Bool.{Bool, true, false, not, _&&_, false≢true}
+use mathlib.Core.List.{List}
+use Prim.Native.Nat.{ℕ, _+_, _≤_, _<_}
+use native.Mathlib.Omega.{arith}
+use lib.Dec.{leb, eqb}
+use lib.IntN.{ℤ, pos}
+use lib.ListN.{length}
+use borrow.Author.Tests.{leb-true, eqb-true}
+use Rattle.offer_rules.specs.Numbers.{eqZ, toNat, word, beyond}
+use Rattle.offer_rules.specs.Time.{slot-of}
+use Rattle.offer_rules.proofs.Drawn.{and-left, and-right, then-zero}
+use Rattle.book_rules.specs.Record.{call-of, facility-of, service-of, period-word, offer-in, record-number, sizes-ok}
+use Rattle.book_rules.specs.Words.{part, put, book-size, book-mark, book-version, clock-place, cell-place, standing-half, variation-half, holding, standing-stamp, variation-stamp, is-book}
+use Rattle.book_rules.specs.Force.{Answer, plain, first-of, in-force, variation-made, will-stand}
+use Rattle.book_rules.specs.Refusals.{number, judge}
+use Rattle.book_rules.specs.Book.{facilities-in, services-in, held, write-cell, book-view, book-accept, book-answer, book-after}
+use Rattle.book_rules.specs.Claims.{is-accepted, StandsAfterwards}
+use Rattle.book_rules.proofs.Parts.{part-put, part-apart, word-before}
+use Rattle.book_rules.proofs.Calls.{named, variation-uses, length-offer}
+use Rattle.book_rules.proofs.Places.{cell-inside, cell-late, cells-apart}
+use Rattle.book_rules.proofs.Filings.{held-back, length-holding}
+use Rattle.book_rules.proofs.OneCall.{unusable, accepted-call, accept-variation}
+use Rattle.book_rules.proofs.ByNumber.{refused-on}
+
+-- A book has room for its cells.
+room-in : (w : List ℤ) → is-book w ≡ true → book-size (facilities-in w) (services-in w) ≤ length w
+unfolding is-book
+room-in w e =
+    leb-true _ _ (and-left (leb (book-size (facilities-in w) (services-in w)) (length w)) (not (beyond (pos 0) (pos 1000000000) (word w clock-place)))
+    (and-right ((leb 64 (length w) && (eqZ (word w 0) book-mark && eqZ (word w 1) book-version)) && sizes-ok (word w 2) (word w 3)) _ e))
+
+-- ---- a variation's cell written
+
+module _ (w : List ℤ) (f s p : ℕ) (o : List ℤ) (room : book-size (facilities-in w) (services-in w) ≤ length w) (hf : f < facilities-in w) (hs : s < services-in w)
+    (long : length o ≡ 23) where
+  abbrev F : ℕ
+  F = facilities-in w
+
+  abbrev S : ℕ
+  S = services-in w
+
+  abbrev at : ℕ
+  at = cell-place F S f s variation-half (slot-of p)
+
+  abbrev c : List ℤ
+  c = holding (variation-stamp p) (variation-made o)
+
+  abbrev written : List ℤ
+  written = put w at c
+
+  wide : length c ≡ 24
+  wide = length-holding (variation-stamp p) o long
+
+  fits : at + length c ≤ length w
+  fits = omega (arith, cell-inside F S f s variation-half (slot-of p) hf hs (omega arith) (omega arith), wide)
+
+  -- F and S stay.
+  head-kept : (i : ℕ) → i < 4 → toNat (word written i) ≡ toNat (word w i)
+  head-kept i h = ap toNat (word-before w at c fits i (omega (arith, cell-late F S f s variation-half (slot-of p))))
+
+  varied : held (variation-stamp p) (part at 24 written) ≡ variation-made o
+  varied = ap (held (variation-stamp p)) (part-put w at c fits 24 wide) ∙ held-back (variation-stamp p) (variation-made o) (λ z. omega arith)
+
+  -- The standing cell is another.
+  kept : part (cell-place F S f s standing-half (slot-of p)) 24 written ≡ part (cell-place F S f s standing-half (slot-of p)) 24 w
+  kept = part-apart w at c fits (cell-place F S f s standing-half (slot-of p)) 24 λ a b. overlap a (omega (arith, wide))
+    where
+      overlap : at < cell-place F S f s standing-half (slot-of p) + 24 → cell-place F S f s standing-half (slot-of p) < at + 24 → ⊥
+      overlap a b =
+          let t = cells-apart F S f s standing-half (slot-of p) f s variation-half (slot-of p) hs hs (omega arith) (omega arith) (omega arith) (omega arith) a b in
+          omega (arith, t .2)
+
+  pub stands-once-written : in-force (book-view written) f s p ≡ will-stand (book-view w) f s p o
+  unfolding in-force will-stand book-view
+  stands-once-written =
+      ap₂ (λ (m n : ℕ).
+      first-of (held (variation-stamp p) (part (cell-place m n f s variation-half (slot-of p)) 24 written))
+      (held standing-stamp (part (cell-place m n f s standing-half (slot-of p)) 24 written)))
+      (head-kept 2 (omega arith)) (head-kept 3 (omega arith))
+      ∙ ap₂ first-of varied (ap (held standing-stamp) kept)
+
+-- ---- every words and every bytes
+
+pub stands-afterwards : StandsAfterwards
+unfolding StandsAfterwards
+stands-afterwards w b call e = go (is-book w) refl
+  where
+    go : (t : Bool) → is-book w ≡ t
+        → in-force (book-view (book-after w b)) (facility-of b) (service-of b) (toNat (period-word b))
+        ≡ will-stand (book-view w) (facility-of b) (service-of b) (toNat (period-word b)) (offer-in b)
+    go true x =
+        let n = named (facilities-in w) (services-in w) b (first-none x) in
+        let y = variation-uses b call in
+        rw (accepted-call w b x (first-none x) (judged-none x) .1 ∙ accept-variation w b call)
+        (unfold write-cell in stands-once-written w (facility-of b) (service-of b) (toNat (period-word b)) (offer-in b) (room-in w x) (n .facility-in (y .0)) (n .service-in (y .1)) (length-offer b))
+      where
+        numbered : is-book w ≡ true → number (List ℤ) book-view book-accept w b ≡ 0
+        numbered x = sym (refused-on w b x) ∙ eqb-true (book-answer w b .number) 0 e
+
+        first-none : is-book w ≡ true → record-number b (facilities-in w) (services-in w) ≡ 0
+        first-none x = unfold number book-view in then-zero _ _ (numbered x) .0
+
+        judged-none : is-book w ≡ true → judge (book-view w) b ≡ 0
+        judged-none x = unfold number in then-zero _ _ (numbered x) .1
+    go false x = absurd (false≢true (unfold plain in ap (λ (a : Answer). eqb (a .number) 0) (sym (unusable w b x .0)) ∙ e))
