@@ -1,28 +1,29 @@
--- "the offer that will stand afterwards" does: it is the one in force for the period of an accepted variation once that is filed.
-use mathlib.Core.Path.{_≡_, refl, sym, _∙_, ap, ap₂}
-use mathlib.Core.Bool.{Bool, true, false, not, _&&_, false≢true}
+-- "the offer that will stand afterwards" does: it is the one in force for a variation's period in the words that filing it leaves.
+use mathlib.Core.Path.{_≡_, sym, _∙_, ap, ap₂}
+use mathlib.Core.Bool.{true, not, _&&_}
 use mathlib.Core.List.{List}
 use Prim.Native.Nat.{ℕ, _+_, _≤_, _<_}
 use native.Mathlib.Omega.{arith}
-use lib.Dec.{leb, eqb}
+use lib.Dec.{leb}
 use lib.IntN.{ℤ, pos}
 use lib.ListN.{length}
-use borrow.Author.Tests.{leb-true, eqb-true}
+use borrow.Author.Tests.{leb-true}
 use Rattle.offer_rules.specs.Numbers.{eqZ, toNat, word, beyond}
 use Rattle.offer_rules.specs.Time.{slot-of}
-use Rattle.offer_rules.proofs.Drawn.{and-left, and-right, then-zero}
-use Rattle.book_rules.specs.Record.{call-of, facility-of, service-of, period-word, offer-in, record-number, sizes-ok}
+use Rattle.offer_rules.specs.Gate.{gate-refuses}
+use Rattle.offer_rules.proofs.Drawn.{and-left, and-right}
+use Rattle.book_rules.specs.Record.{facility-of, service-of, period-word, reason-of, offer-in, sizes-ok}
 use Rattle.book_rules.specs.Words.{part, put, book-size, book-mark, book-version, clock-place, cell-place, standing-half, variation-half, holding, standing-stamp, variation-stamp, is-book}
-use Rattle.book_rules.specs.Force.{Answer, plain, first-of, in-force, variation-made, will-stand}
-use Rattle.book_rules.specs.Refusals.{number, judge}
-use Rattle.book_rules.specs.Book.{facilities-in, services-in, held, write-cell, book-view, book-accept, book-answer, book-after}
-use Rattle.book_rules.specs.Claims.{is-accepted, StandsAfterwards}
+use Rattle.book_rules.specs.Force.{InForce, first-of, in-force, variation-made, will-stand, pairs-of}
+use Rattle.book_rules.specs.Refusals.{grounds}
+use Rattle.book_rules.specs.Book.{facilities-in, services-in, held, write-cell, book-view}
+use Rattle.book_rules.specs.ByNumber.{conditions-from-5, conditions, applies}
+use Rattle.book_rules.specs.Claims.{force-for, StandsAfterwards}
 use Rattle.book_rules.proofs.Parts.{part-put, part-apart, word-before}
 use Rattle.book_rules.proofs.Calls.{named, variation-uses, length-offer}
 use Rattle.book_rules.proofs.Places.{cell-inside, cell-late, cells-apart}
 use Rattle.book_rules.proofs.Filings.{held-back, length-holding}
-use Rattle.book_rules.proofs.OneCall.{unusable, accepted-call, accept-variation}
-use Rattle.book_rules.proofs.ByNumber.{refused-on}
+use Rattle.book_rules.proofs.OneCall.{accept-variation}
 
 -- A book has room for its cells.
 room-in : (w : List ℤ) → is-book w ≡ true → book-size (facilities-in w) (services-in w) ≤ length w
@@ -81,27 +82,15 @@ module _ (w : List ℤ) (f s p : ℕ) (o : List ℤ) (room : book-size (faciliti
       (head-kept 2 (omega arith)) (head-kept 3 (omega arith))
       ∙ ap₂ first-of varied (ap (held standing-stamp) kept)
 
--- ---- every words and every bytes
+-- ---- every words and every variation
 
 pub stands-afterwards : StandsAfterwards
-unfolding StandsAfterwards
-stands-afterwards w b call e = go (is-book w) refl
-  where
-    go : (t : Bool) → is-book w ≡ t
-        → in-force (book-view (book-after w b)) (facility-of b) (service-of b) (toNat (period-word b))
-        ≡ will-stand (book-view w) (facility-of b) (service-of b) (toNat (period-word b)) (offer-in b)
-    go true x =
-        let n = named (facilities-in w) (services-in w) b (first-none x) in
-        let y = variation-uses b call in
-        rw (accepted-call w b x (first-none x) (judged-none x) .1 ∙ accept-variation w b call)
-        (unfold write-cell in stands-once-written w (facility-of b) (service-of b) (toNat (period-word b)) (offer-in b) (room-in w x) (n .facility-in (y .0)) (n .service-in (y .1)) (length-offer b))
-      where
-        numbered : is-book w ≡ true → number (List ℤ) book-view book-accept w b ≡ 0
-        numbered x = sym (refused-on w b x) ∙ eqb-true (book-answer w b .number) 0 e
-
-        first-none : is-book w ≡ true → record-number b (facilities-in w) (services-in w) ≡ 0
-        first-none x = unfold number book-view in then-zero _ _ (numbered x) .0
-
-        judged-none : is-book w ≡ true → judge (book-view w) b ≡ 0
-        judged-none x = unfold number in then-zero _ _ (numbered x) .1
-    go false x = absurd (false≢true (unfold plain in ap (λ (a : Answer). eqb (a .number) 0) (sym (unusable w b x .0)) ∙ e))
+unfolding StandsAfterwards applies conditions conditions-from-5
+stands-afterwards w b usable taken call =
+    let n = named (facilities-in w) (services-in w) b taken in
+    let y = variation-uses b call in
+    let p = toNat (period-word b) in
+    let stands = stands-once-written w (facility-of b) (service-of b) p (offer-in b) (room-in w usable) (n .facility-in (y .0)) (n .service-in (y .1)) (length-offer b) in
+    rw call
+    (ap (λ (new : InForce). gate-refuses (book-view w .now) (grounds (book-view w) (facility-of b)) (service-of b) p (reason-of b) (pairs-of (force-for w b)) (pairs-of new))
+    (sym stands ∙ ap (λ (v : List ℤ). force-for v b) (unfold write-cell in sym (accept-variation w b call))))

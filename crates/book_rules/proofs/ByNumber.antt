@@ -75,7 +75,7 @@ module _ (vw : View) (b : List ℕ) where
 
 -- ---- every words and every bytes
 
-pub refused-on : (w : List ℤ) (b : List ℕ) → is-book w ≡ true → book-answer w b .number ≡ number (List ℤ) book-view book-accept w b
+refused-on : (w : List ℤ) (b : List ℕ) → is-book w ≡ true → book-answer w b .number ≡ number (List ℤ) book-view book-accept w b
 unfolding book-answer answer plain
 refused-on w b e = rw e (go (number (List ℤ) book-view book-accept w b) (eqb (number (List ℤ) book-view book-accept w b) 0) refl)
   where

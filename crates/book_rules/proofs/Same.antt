@@ -51,13 +51,13 @@ Near now (standingK f s k) = Unit {0}
 Near now (variationK f s p) = (now < start-of p) × (p < horizon-end now)
 
 -- A variation's cell holds nothing for another period.
-abbrev Stamped : Key → List ℤ → Type 0
-Stamped clockK v = Unit {0}
-Stamped (noticeK k) v = Unit {0}
-Stamped (capabilityK f) v = Unit {0}
-Stamped (outageK f) v = Unit {0}
-Stamped (standingK f s k) v = Unit {0}
-Stamped (variationK f s p) v = (q : ℕ) → q ≢ p → held (variation-stamp q) v ≡ none
+abbrev HoldsNoOther : Key → List ℤ → Type 0
+HoldsNoOther clockK v = Unit {0}
+HoldsNoOther (noticeK k) v = Unit {0}
+HoldsNoOther (capabilityK f) v = Unit {0}
+HoldsNoOther (outageK f) v = Unit {0}
+HoldsNoOther (standingK f s k) v = Unit {0}
+HoldsNoOther (variationK f s p) v = (q : ℕ) → q ≢ p → held (variation-stamp q) v ≡ none
 
 alive-before : (m n : ℕ) (κ : Key) → m ≤ n → Alive n κ → Alive m κ
 alive-before m n clockK h a = tt
@@ -166,7 +166,7 @@ module _ (F S : ℕ) (limits : List ℤ) where
   -- ---- one more filing
 
   module _ (w : List ℤ) (l : List (List ℕ)) (r : Same w l) (b : List ℕ) (κ₀ : Key) (v : List ℤ) (x : Files b κ₀ v)
-      (valid : Valid F S κ₀) (stamped : Stamped κ₀ v) (later : Later b l) (near : Near (list-now l) κ₀) where
+      (valid : Valid F S κ₀) (no-other : HoldsNoOther κ₀ v) (later : Later b l) (near : Near (list-now l) κ₀) where
     abbrev written : List ℤ
     written = put w (place F S κ₀) v
 
@@ -197,7 +197,7 @@ module _ (F S : ℕ) (limits : List ℤ) where
         go f s q p eκ e₀ n m =
             let a′ : list-now l < start-of q = subst (Alive (list-now l)) eκ a in
             let near′ : (list-now l < start-of p) × (p < horizon-end (list-now l)) = subst (Near (list-now l)) e₀ near in
-            let other : (q : ℕ) → q ≢ p → held (variation-stamp q) v ≡ none = subst (λ (k : Key). Stamped k v) e₀ stamped in
+            let other : (q : ℕ) → q ≢ p → held (variation-stamp q) v ≡ none = subst (λ (k : Key). HoldsNoOther k v) e₀ no-other in
             let there : place F S (variationK f s q) ≡ place F S κ₀ = unfold place in ap (λ (k : ℕ). cell-place F S f s variation-half k) m ∙ ap (place F S) (sym e₀) in
             let wide : width (variationK f s q) ≡ width κ₀ = unfold width in ap width (sym e₀) in
             let raw : part (place F S (variationK f s q)) (width (variationK f s q)) written ≡ v =
@@ -293,7 +293,7 @@ module _ (F S : ℕ) (limits : List ℤ) where
       now≡ : book-view w .now ≡ list-now l
       now≡ = now-is w l r
 
-      file : (κ : Key) (v : List ℤ) → Files b κ v → Valid F S κ → Stamped κ v → is-clockK κ ≡ false → Near (list-now l) κ → Same (book-accept w b) (b ∷ l)
+      file : (κ : Key) (v : List ℤ) → Files b κ v → Valid F S κ → HoldsNoOther κ v → is-clockK κ ≡ false → Near (list-now l) κ → Same (book-accept w b) (b ∷ l)
       file κ v x vκ st c near = filed-same w l r b κ v x vκ st (clock-stays w l b κ v r x c) near
 
       go : Which b → Same (book-accept w b) (b ∷ l)

@@ -54,7 +54,7 @@ write-cell w f s h k c = put w (cell-place (facilities-in w) (services-in w) f s
 abbrev pub file-standing : List ℤ → ℕ → ℕ → ℕ → List ℤ → List ℤ
 file-standing w f s k o = write-cell w f s standing-half k (cell standing-stamp o)
 
--- Where a variation's pairs are all blank, "its cell becomes 24 zeros".
+-- Where its pairs are all blank a variation leaves nothing to hold.
 abbrev pub file-variation : List ℤ → ℕ → ℕ → ℕ → List ℤ → List ℤ
 file-variation w f s p o = write-cell w f s variation-half (slot-of p) (holding (variation-stamp p) (variation-made o))
 

@@ -8,10 +8,12 @@ use lib.Dec.{eqb}
 use lib.IntN.{ℤ}
 use lib.ListN.{length}
 use Rattle.offer_rules.specs.Numbers.{toNat}
-use Rattle.book_rules.specs.Record.{call-of, facility-of, service-of, period-word, offer-in, between}
-use Rattle.book_rules.specs.Words.{opening-number, opening-words}
-use Rattle.book_rules.specs.Force.{Answer, plain, in-force, will-stand}
-use Rattle.book_rules.specs.Book.{book-view, book-answer, book-after, book-answers, book-run}
+use Rattle.offer_rules.specs.Gate.{gate-refuses}
+use Rattle.book_rules.specs.Record.{call-of, facility-of, service-of, period-word, reason-of, between, record-number}
+use Rattle.book_rules.specs.Words.{is-book, opening-number, opening-words}
+use Rattle.book_rules.specs.Force.{InForce, in-force, pairs-of, Answer, plain}
+use Rattle.book_rules.specs.Refusals.{grounds}
+use Rattle.book_rules.specs.Book.{facilities-in, services-in, book-view, book-accept, book-answer, book-after, book-answers, book-run}
 use Rattle.book_rules.specs.ByNumber.{applies}
 use Rattle.book_rules.specs.ListMachine.{list-answers}
 
@@ -36,12 +38,17 @@ unfoldable pub LowestThatApplies : Type 0
 LowestThatApplies = (w : List ℤ) (b : List ℕ) → is-accepted w b ≡ false
     → (applies w b (book-answer w b .number) ≡ true) × ((n : ℕ) → n < book-answer w b .number → applies w b n ≡ false)
 
--- What 17 holds against old, "the offer that will stand afterwards", is what an accepted variation leaves in force for its period,
--- on every words that are a book.
+-- What is in force in some words for a record's facility, service and period.
+abbrev pub force-for : List ℤ → List ℕ → InForce
+force-for w b = in-force (book-view w) (facility-of b) (service-of b) (toNat (period-word b))
+
+-- "The gate compares old with the offer that will stand afterwards": on every words and every variation that pass 1 to 4, the condition of 17 is
+-- the gate's, old being the offer in force before the call and new the one in force in the words that it leaves once it is filed.
 unfoldable pub StandsAfterwards : Type 0
-StandsAfterwards = (w : List ℤ) (b : List ℕ) → call-of b ≡ 4 → is-accepted w b ≡ true
-    → in-force (book-view (book-after w b)) (facility-of b) (service-of b) (toNat (period-word b))
-    ≡ will-stand (book-view w) (facility-of b) (service-of b) (toNat (period-word b)) (offer-in b)
+StandsAfterwards = (w : List ℤ) (b : List ℕ) → is-book w ≡ true → record-number b (facilities-in w) (services-in w) ≡ 0 → call-of b ≡ 4
+    → applies w b 17
+    ≡ gate-refuses (book-view w .now) (grounds (book-view w) (facility-of b)) (service-of b) (toNat (period-word b)) (reason-of b)
+    (pairs-of (force-for w b)) (pairs-of (force-for (book-accept w b) b))
 
 -- ---- demand 3: every list of calls
 -- Premise: each call is lent the words that the call before left, the first those that an accepted opening left.

@@ -44,7 +44,7 @@ first-of none none = no-offer
 unfoldable pub in-force : View → ℕ → ℕ → ℕ → InForce
 in-force vw f s p = first-of (vw .variation f s p) (vw .standing f s (slot-of p))
 
--- "An accepted variation whose pairs are all blank .. means: no variation."
+-- Document 02, "Taking a variation back": "An accepted variation whose pairs are all blank .. means: no variation."
 unfoldable pub variation-made : List ℤ → Option (List ℤ)
 variation-made o = cond (all-blank (pairs o)) none (some o)
 

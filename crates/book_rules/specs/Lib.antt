@@ -1,4 +1,4 @@
--- Document 01's rules of the book, in the paper's order. Units and time, the offer and the gate stand below, in offer_rules.
+-- The rules of the book by document 01, in that paper's order, with document 02's where they are quoted. Units and time, the offer and the gate stand below, in offer_rules.
 pub mod Record
 pub mod Words
 pub mod Force

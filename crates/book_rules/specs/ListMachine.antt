@@ -45,7 +45,7 @@ list-notice (c ∷ l) k =
 unfoldable pub list-standing : List (List ℕ) → ℕ → ℕ → ℕ → Option (List ℤ)
 list-standing l f s k = newest (is-offer-for 3 f s k) (λ c. some (offer-in c)) none l
 
--- "Variation: newest for (f, s, P), with P whole, not its slot." "a newest variation that is blank counts as none"
+-- "Variation: newest for (f, s, P), with P whole, not its slot." "For the list machine, a newest variation that is blank counts as none" (document 02).
 unfoldable pub list-variation : List (List ℕ) → ℕ → ℕ → ℕ → Option (List ℤ)
 list-variation l f s p = newest (is-offer-for 4 f s p) (λ c. variation-made (offer-in c)) none l
 

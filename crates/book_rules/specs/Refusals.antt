@@ -112,7 +112,7 @@ unfoldable pub admitted-standing : View → ℕ → ℕ → ℕ → List ℤ →
 admitted-standing vw f s k o = offer-number (vw .limits) (vw .capability f) s 0 o then revision-number (vw .now) k (vw .standing f s k) o
 
 -- 11 to 17 of a variation that is admitted for period p. "Old is the offer in force before the call";
--- "The gate compares old with the offer that will stand afterwards."
+-- "The gate compares old with the offer that will stand afterwards" (document 02).
 unfoldable pub admitted-variation : View → ℕ → ℕ → ℕ → ℕ → List ℤ → ℕ
 admitted-variation vw f s p reason o =
     offer-number (vw .limits) (vw .capability f) s reason o

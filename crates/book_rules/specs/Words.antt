@@ -68,7 +68,7 @@ cell-stamp c = word c 0
 abbrev pub cell-offer : List ℤ → List ℤ
 cell-offer c = drop 1 c
 
--- A cell that holds an offer under a stamp; "24 zeros" where there is none to hold.
+-- A cell that holds an offer under a stamp; where there is none to hold, "Its cell becomes 24 zeros" (document 02).
 unfoldable pub holding : ℕ → Option (List ℤ) → List ℤ
 holding stamp none = zeros 24
 holding stamp (some o) = cell stamp o

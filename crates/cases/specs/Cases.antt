@@ -100,6 +100,8 @@ cases =
     ∷ record { before = both ++ tripped; last = blank 0; answered = draws 17 }
     ∷ record { before = both ++ (tripped ++ (blank 2 ∷ [])); last = look-up 4; answered = reads 0 1 700 }
     ∷ record { before = varied ++ (tripped ++ (blank 2 ∷ [])); last = look-up 4; answered = draws 19 }
+    -- "blanks may stand anywhere": one blank pair before another is not all of them.
+    ∷ record { before = plant ∷ (stands ∷ (variation 4 0 (0 at 0 ∷ (300 at 4000 ∷ [])) ∷ [])); last = look-up 4; answered = reads 0 2 300 }
     -- What it is compared with is the standing offer: 30.0 at 45.00 against 40.00.
     ∷ record { before = (plant ∷ (stands ∷ (variation 4 0 (300 at 4500 ∷ []) ∷ []))) ++ tripped; last = blank 2; answered = draws 17 }
     -- "A blank standing offer still means zero MW": it is in force and counted.

@@ -1,1 +1,1 @@
-// No code: document 01's cases and its worked run, proved of the rules.
+// No code: cases of documents 01 and 02, and the worked run, proved of the rules.

@@ -1,4 +1,4 @@
--- Document 01's rules of an offer, below the book's. Read in this order.
+-- The rules of an offer by document 01, with document 02's, below the book's. Read in this order.
 pub mod Numbers
 pub mod Time
 pub mod Offer

@@ -35,7 +35,7 @@ pairs o = pairs-in (drop 3 o)
 unfoldable pub is-blank : Pair → Bool
 is-blank x = eqZ (x .quantity) (pos 0)
 
--- "whose pairs are all blank"
+-- Document 02, of a variation "whose pairs are all blank".
 unfoldable pub all-blank : List Pair → Bool
 all-blank [] = true
 all-blank (x ∷ l) = is-blank x && all-blank l

@@ -1,4 +1,4 @@
-// The pairs of an offer: ten quantities added, and the tests of refusals 11 to 13.
+// The pairs of an offer: ten quantities added, whether all are blank, and the tests of refusals 11 to 13.
 // Prices and quantities have types of their own, so that neither is taken for the other.
 ghost use mathlib.Core.Path.{_≡_};
 ghost use mathlib.Core.Bool.{true, false, not, cond};
@@ -49,7 +49,7 @@ pub fn sum_of(pairs: &[i32]) -> i64
     total_of(pairs).0
 }
 
-// ---- 11 to 13: the pairs
+// ---- blank pairs
 
 pub fn is_blank(quantity: Quantity) -> bool
     ensures { λ r. ⌜ r ≡ blank quantity ⌝ }
@@ -76,6 +76,8 @@ pub fn is_all_blank(offer: &[i32]) -> bool
 {
     all_blank(&offer[offer::PAIRS..])
 }
+
+// ---- 11 to 13: the pairs
 
 // 11 "quantity outside 0–99,999, price outside its limits"
 pub fn is_out_of_range(lowest: Price, highest: Price, price: Price, quantity: Quantity) -> bool

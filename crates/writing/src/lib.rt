@@ -152,7 +152,8 @@ pub fn standing_call(book: &mut [i32], bytes: &[u8]) -> u8
     stand(book, bytes)
 }
 
-// Where the pairs are all blank, the cell "becomes 24 zeros". "The slot of P is P mod 336."
+// Files a variation and returns 0, or returns the number that it drew. Where its pairs are all blank, "Its cell becomes 24 zeros."
+// "The slot of P is P mod 336."
 fn file_variation(
     book: &mut [i32],
     f: usize,
