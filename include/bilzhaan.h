@@ -77,7 +77,8 @@ enum {
 
 /* Byte 5, with what each call uses. Bytes that a call doesn't use are zero.
  * A variation whose pairs are all blank takes the period's variation back, if there is one: the standing offer stands
- * again. It doesn't mean 0.0 MW, which can't be filed for one period; the least is 0.1 MW. */
+ * again, or nothing does and a look-up draws 19. It doesn't mean 0.0 MW, which can't be filed for one period; the least
+ * is 0.1 MW. */
 enum {
     BILZHAAN_CALL_CLOCK = 1,      /* A the minute */
     BILZHAAN_CALL_CAPABILITY = 2, /* facility; W0 to W16 */

@@ -123,8 +123,9 @@ static inline void bilzhaan_write_standing(uint8_t record[BILZHAAN_RECORD_BYTES]
     bilzhaan_offer_(record, BILZHAAN_CALL_STANDING, offer);
 }
 
-/* Without pairs the variation that is held is taken back, and the standing offer stands again. That asks what any
- * variation does: inside gate closure a reason, of a generation's reserve a proportion from 1. */
+/* Without pairs the variation that is held is taken back, and the standing offer stands again, if there is one. That asks
+ * what any variation does: inside gate closure a reason, and the standing offer's prices those of the variation, tenth by
+ * tenth; of a generation's reserve a proportion from 1. */
 static inline void bilzhaan_write_variation(uint8_t record[BILZHAAN_RECORD_BYTES], const struct bilzhaan_offer *offer)
 {
     bilzhaan_offer_(record, BILZHAAN_CALL_VARIATION, offer);

@@ -672,7 +672,7 @@ class Shown(Tool):
     def test_a_variation_taken_back(self):
         for service, pairs in (('energy', 'pairs 1 to 10'), ('primary', 'pairs 1 to 5'), ('regulation', 'pairs 1 to 5')):
             rows = self.rows(f'variation --facility 0 --service {service} --period 4 --reason outage --take-back')
-            self.assertEqual(rows['means'], 'takes the variation back: the standing offer stands again, if there is one; not 0.0 MW')
+            self.assertEqual(rows['means'], 'accepted, it takes the variation back: the standing offer stands again, if there is one; not 0.0 MW')
             self.assertEqual(rows[pairs], 'blank')
             self.assertNotIn('total', rows)
             self.assertTrue(rows['made by'].endswith('--period 4 --reason outage --take-back'))
@@ -967,7 +967,7 @@ class Answers(Tool):
                 ('0 1 700 --call look-up', 'the standing offer is in force, 70.0 MW in all'),
                 ('0 2 1 --call 8', 'the variation is in force, 0.1 MW in all'),
                 ('0 1 0 --call 8', 'the standing offer is in force, 0.0 MW in all'),
-                ('0 2 0 --call 8', 'the variation is in force, 0.0 MW in all; only a damaged book holds such a variation'),
+                ('0 2 0 --call 8', 'the variation is in force, 0.0 MW in all; no filing leaves such a variation: the book is damaged, or from before version 1.1.0'),
                 ('0 2 0 --call 9', '2 facilities have an offer in force, 0.0 MW in all'),
                 ('0 1 300 --call total', '1 facility has an offer in force, 30.0 MW in all'),
                 ('0 0 0 --call total', '0 facilities have an offer in force, 0.0 MW in all'),

@@ -108,7 +108,7 @@ def refusal_lines(answer):
 def look_up_lines(answer, service):
     lines = [f'the {IN_FORCE[answer.words[0]]} is in force, {show_mw(answer.sum)} in all']
     if answer.words[0] == 2 and answer.sum == 0:
-        lines[0] += '; only a damaged book holds such a variation'
+        lines[0] += '; no filing leaves such a variation: the book is damaged, or from before version 1.1.0'
     if len(answer.words) == 24:
         lines += aligned(offer_rows(service, *answer.words[1:4], answer.words[4:])[:-1])
     return lines

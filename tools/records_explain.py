@@ -85,7 +85,7 @@ def field_rows(r):
     if r.call in (3, 4) and r.service < 5:
         rows += offer_rows(r.service, *used_offer(r))
     if takes_back(r):
-        rows[-1] = ('means', f'{TAKES_BACK}; not 0.0 MW')
+        rows[-1] = ('means', f'accepted, it {TAKES_BACK}; not 0.0 MW')
     if r.call == 1:
         rows.append(('minute', show_minute(r.a)))
     if r.call == 2:

@@ -64,8 +64,8 @@ static const char *open_books(struct books *b, const struct line *l, struct answ
     for (int i = 0; i < 10; i++)
         if (!read_word(l->arguments[i], &n[i]))
             return "an argument is no number of 32 bits";
-    if (n[0] < 0 || n[0] > LEVEL)
-        return "the level is above this library's";
+    if (n[0] < FIRST_LEVEL || n[0] > LEVEL)
+        return "answers of that level don't hold of this library";
     bool good_sizes = n[1] >= 1 && n[1] <= 64 && (n[2] == 1 || n[2] == 5);
     int64_t lent = (good_sizes ? (int64_t)BILZHAAN_BOOK_WORDS(n[1], n[2]) : 0) + n[9];
     if (lent < 0 || lent > WORDS_MOST)

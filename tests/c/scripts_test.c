@@ -102,6 +102,7 @@ static void test_lines(void)
         " words = 1",
         "words 1 = 1",
         "open 2 1 1 -5 5 5 5 5 5 0 = 0",
+        "open 0 1 1 -5 5 5 5 5 5 0 = 0",
         "open 1 1 1 -5 5 5 5 5 5 = 0",
         "open 1 1 1 -5 5 5 5 5 5 +1 = 0",
         "open 1 1 1 -5 5 5 5 5 5 00 = 0",

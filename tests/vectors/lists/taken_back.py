@@ -1,6 +1,6 @@
 """Variations taken back: a variation of blanks alone, with the gate open and inside it, over each thing that its cell and the standing cell may hold."""
 from .form import (GENERATION, LEAST, LOAD, MOST, block, capability, cell, clock, look_up, notice, outage, standing, total, variation, with_bytes,
-                   with_words)
+                   with_words, withdrawal)
 
 # Facility 0's cells for energy and slot 100 in a book of one facility and one service
 STANDING_AT, VARIATION_AT = cell(1, 1, 0, 0, 0, 100), cell(1, 1, 0, 0, 1, 100)
@@ -178,7 +178,7 @@ def back_to_a_standing_offer_of_blanks(t):
 # ---- what refuses it
 
 def what_refuses_a_take_back(t):
-    """Numbers 3, 4, 5, 9, 10, 11, 12, 14, 15 and 17 of a take-back, from a book whose words stay; mended, it is accepted."""
+    """Numbers 3, 4, 5, 10, 11, 12, 14 and 15 of a take-back, from a book whose words stay; mended, it is accepted."""
     t.open(2, 5)
     t.call(capability(0, GENERATION))
     for s in range(5):
@@ -397,7 +397,7 @@ def tripped_set_files_zeros(t):
 
 
 def windows_of_a_take_back(t):
-    """Outages and notices that end before the period, start after it or hold it alone, and a withdrawn notice 5."""
+    """Notices that end before the period, start after it or hold it alone, a withdrawn notice 5, and outages that end before it or hold it."""
     t.open(1, 1)
     t.call(capability(0, GENERATION))
     t.call(standing(0, 0, 100, [(1, 50)]))
@@ -408,6 +408,10 @@ def windows_of_a_take_back(t):
             t.call(notice(kind, first, last))
             t.call(_back(0, 0, 100, kind), number)
         t.call(variation(0, 0, 100, [(1, 20)], 1))
+    t.call(withdrawal())
+    t.call(_back(0, 0, 100, 5), 17)
+    t.call(_back(0, 0, 100, 4))
+    t.call(variation(0, 0, 100, [(1, 20)], 1))
     t.call(notice(3, 100, 100))
     t.call(_back(0, 0, 100, 3), 17)
     t.call(variation(0, 0, 100, [(1, 80)], 1))
@@ -436,7 +440,7 @@ def _damaged_book(t):
 
 
 def blank_variation_held(t):
-    """A stamped variation cell of blanks, which only a damaged book holds, is in force with sum 0 until it is taken back."""
+    """A stamped variation cell of blanks, which no call of this level leaves, is in force with sum 0 until it is taken back."""
     _damaged_book(t)
     for pairs in ([], [(7, 0)] * 10):
         for reason, number in ((0, 17), (3, 17), (4, 0), (5, 0), (1, 0)):
