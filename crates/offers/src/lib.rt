@@ -6,8 +6,8 @@ ghost use lib.ListN.{length};
 ghost use Rattle.offer_rules.specs.Time.{slot-refused, period-refused};
 ghost use Rattle.offer_rules.specs.Offer.{offer-number};
 
-pub mod capability;
-pub mod pairs;
+mod capability;
+mod pairs;
 
 use capability::is_above_capacity;
 use capability::is_proportion_refused;
