@@ -1,19 +1,15 @@
 -- "the offer that will stand afterwards" does: it is the one in force for a variation's period in the words that filing it leaves.
 use mathlib.Core.Path.{_≡_, sym, _∙_, ap, ap₂}
-use mathlib.Core.Bool.{true, not, _&&_}
 use mathlib.Core.List.{List}
 use Prim.Native.Nat.{ℕ, _+_, _≤_, _<_}
 use native.Mathlib.Omega.{arith}
-use lib.Dec.{leb}
-use lib.IntN.{ℤ, pos}
+use lib.IntN.{ℤ}
 use lib.ListN.{length}
-use borrow.Author.Tests.{leb-true}
-use Rattle.offer_rules.specs.Numbers.{eqZ, toNat, word, beyond}
+use Rattle.offer_rules.specs.Numbers.{toNat, word}
 use Rattle.offer_rules.specs.Time.{slot-of}
 use Rattle.offer_rules.specs.Gate.{gate-refuses}
-use Rattle.offer_rules.proofs.Drawn.{and-left, and-right}
-use Rattle.book_rules.specs.Record.{facility-of, service-of, period-word, reason-of, offer-in, sizes-ok}
-use Rattle.book_rules.specs.Words.{part, put, book-size, book-mark, book-version, clock-place, cell-place, standing-half, variation-half, holding, standing-stamp, variation-stamp, is-book}
+use Rattle.book_rules.specs.Record.{facility-of, service-of, period-word, reason-of, offer-in}
+use Rattle.book_rules.specs.Words.{part, put, book-size, cell-place, standing-half, variation-half, holding, standing-stamp, variation-stamp}
 use Rattle.book_rules.specs.Force.{InForce, first-of, in-force, variation-made, will-stand, pairs-of}
 use Rattle.book_rules.specs.Refusals.{grounds}
 use Rattle.book_rules.specs.Book.{facilities-in, services-in, held, write-cell, book-view}
@@ -23,14 +19,7 @@ use Rattle.book_rules.proofs.Parts.{part-put, part-apart, word-before}
 use Rattle.book_rules.proofs.Calls.{named, variation-uses, length-offer}
 use Rattle.book_rules.proofs.Places.{cell-inside, cell-late, cells-apart}
 use Rattle.book_rules.proofs.Filings.{held-back, length-holding}
-use Rattle.book_rules.proofs.OneCall.{accept-variation}
-
--- A book has room for its cells.
-room-in : (w : List ℤ) → is-book w ≡ true → book-size (facilities-in w) (services-in w) ≤ length w
-unfolding is-book
-room-in w e =
-    leb-true _ _ (and-left (leb (book-size (facilities-in w) (services-in w)) (length w)) (not (beyond (pos 0) (pos 1000000000) (word w clock-place)))
-    (and-right ((leb 64 (length w) && (eqZ (word w 0) book-mark && eqZ (word w 1) book-version)) && sizes-ok (word w 2) (word w 3)) _ e))
+use Rattle.book_rules.proofs.OneCall.{room-in, accept-variation}
 
 -- ---- a variation's cell written
 

@@ -1,19 +1,30 @@
 -- One call on a usable book by a record that passes 2, 3 and 4: what it answers and leaves, call by call. The code's proofs cite these.
 use mathlib.Core.Path.{_≡_, _∙_}
-use mathlib.Core.Bool.{true, false, cond}
+use mathlib.Core.Bool.{true, false, cond, not, _&&_}
 use mathlib.Core.List.{List, [], _∷_}
 use Prim.Native.Nat.{ℕ, _≤_}
 use native.Mathlib.Omega.{arith}
-use lib.Dec.{eqb}
+use lib.Dec.{leb, eqb}
 use lib.IntN.{ℤ, pos}
-use borrow.Author.Tests.{ne-eqb}
-use Rattle.offer_rules.specs.Numbers.{toNat, _then_}
-use Rattle.book_rules.specs.Record.{call-of, facility-of, service-of, period-word, reason-of, word-A, word-B, capability-in, offer-in, record-number}
-use Rattle.book_rules.specs.Words.{put, clock-place, notice-place, facility-place, outage-place, is-book}
+use lib.ListN.{length}
+use borrow.Author.Tests.{leb-true, ne-eqb}
+use Rattle.offer_rules.specs.Numbers.{eqZ, toNat, word, beyond, _then_}
+use Rattle.offer_rules.proofs.Drawn.{and-left, and-right}
+use Rattle.book_rules.specs.Record.{call-of, facility-of, service-of, period-word, reason-of, word-A, word-B, capability-in, offer-in, record-number, sizes-ok}
+use Rattle.book_rules.specs.Words.{put, book-size, book-mark, book-version, clock-place, notice-place, facility-place, outage-place, is-book}
 use Rattle.book_rules.specs.Force.{plain}
 use Rattle.book_rules.specs.Refusals.{judge, reply, number, answer, after}
 use Rattle.book_rules.specs.Book.{facilities-in, services-in, outage-words, file-standing, file-variation, book-view, book-accept, book-answer, book-after}
 use Rattle.book_rules.proofs.Calls.{reply-plain}
+
+-- ---- a usable book
+
+-- A book has room for its cells.
+pub room-in : (w : List ℤ) → is-book w ≡ true → book-size (facilities-in w) (services-in w) ≤ length w
+unfolding is-book
+room-in w e =
+    leb-true _ _ (and-left (leb (book-size (facilities-in w) (services-in w)) (length w)) (not (beyond (pos 0) (pos 1000000000) (word w clock-place)))
+    (and-right ((leb 64 (length w) && (eqZ (word w 0) book-mark && eqZ (word w 1) book-version)) && sizes-ok (word w 2) (word w 3)) _ e))
 
 -- ---- an unusable book, a record that is refused as it stands
 

@@ -14,6 +14,7 @@ use Rattle.offer_rules.proofs.Drawn.{and-left, and-right, or-right, draw-zero}
 use Rattle.book_rules.specs.Record.{sizes-ok}
 use Rattle.book_rules.specs.Book.{facilities-in, services-in}
 use Rattle.book_rules.specs.Words.{book-size, book-mark, book-version, clock-place, is-book, limits-ok, opening-number}
+use Rattle.book_rules.proofs.OneCall.{room-in}
 
 -- Sizes that are not refused are counts.
 pub record Sizes (F S : ℤ) : Type 0 where
@@ -79,7 +80,7 @@ usable w e =
     let t = count-within 1000000000 (word w clock-place) (not-true (beyond (pos 0) (pos 1000000000) (word w clock-place)) (and-right room timely rest)) in
     record {
       head-fits = leb-true 64 (length w) (and-left (leb 64 (length w)) (eqZ (word w 0) book-mark && eqZ (word w 1) book-version) (and-left head sizes front));
-      book-fits = leb-true (book-size (toNat (word w 2)) (toNat (word w 3))) (length w) (and-left room timely rest);
+      book-fits = room-in w e;
       F-is = s .F-is;
       S-is = s .S-is;
       clock-is = t .0;
