@@ -7,9 +7,9 @@ use Prim.Native.Nat.{ℕ, _<_}
 use lib.Dec.{eqb}
 use lib.IntN.{ℤ}
 use lib.ListN.{length}
-use Rattle.offer_rules.specs.Numbers.{toNat}
+use Rattle.offer_rules.specs.Numbers.{toNat, between}
 use Rattle.offer_rules.specs.Gate.{gate-refuses}
-use Rattle.book_rules.specs.Record.{call-of, facility-of, service-of, period-word, reason-of, between, record-number}
+use Rattle.book_rules.specs.Record.{call-of, facility-of, service-of, period-word, reason-of, record-number}
 use Rattle.book_rules.specs.Words.{is-book, opening-number, opening-words}
 use Rattle.book_rules.specs.Force.{InForce, in-force, pairs-of, Answer, plain}
 use Rattle.book_rules.specs.Refusals.{grounds}
