@@ -13,7 +13,7 @@ use borrow.Author.Tests.{eqb-true, eqb-false, eq-eqb, ne-eqb}
 use Rattle.offer_rules.specs.Numbers.{draw, _then_}
 use Rattle.offer_rules.specs.Offer.{offer-number}
 use Rattle.offer_rules.specs.Gate.{standing-gate-refuses}
-use Rattle.offer_rules.proofs.Drawn.{then-eq, then-zero, draw-zero, then-assoc}
+use Rattle.offer_rules.proofs.Drawn.{or-false, then-eq, then-zero, draw-zero, then-assoc}
 use Rattle.book_rules.specs.Record.{is-record, outside, has-stray, record-number}
 use Rattle.book_rules.specs.Words.{is-book}
 use Rattle.book_rules.specs.Force.{View, Answer, plain}
@@ -30,10 +30,6 @@ lowest n [] = 0
 lowest n (t ∷ l) = draw t n then lowest (suc n) l
 
 -- ---- laws of numbers drawn in order
-
-or-false : (t : Bool) → (t || false) ≡ t
-or-false true = refl
-or-false false = refl
 
 skip : (n m : ℕ) → (draw false n then m) ≡ m
 unfolding draw _then_

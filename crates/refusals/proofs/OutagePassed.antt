@@ -11,7 +11,7 @@ use lib.Signed.{ltZ}
 use Rattle.offer_rules.specs.Numbers.{toNat, beyond}
 use Rattle.offer_rules.specs.Kinds.{kind-row}
 use Rattle.offer_rules.specs.Offer.{kind-of}
-use Rattle.offer_rules.proofs.KindRows.{every-row}
+use Rattle.offer_rules.proofs.KindRows.{each-kind}
 use Rattle.offer_rules.proofs.Drawn.{or-left, or-right, draw-zero}
 use Rattle.book_rules.specs.Refusals.{outage-number}
 
@@ -23,8 +23,9 @@ not-above hi (negsuc n) e = omega arith
 most-48 : (kind n : ℤ) → ltZ (kind-row kind .longest-outage) n ≡ false → toNat n ≤ 48
 unfolding kind-row
 most-48 kind n =
-    every-row (λ k. ltZ (k .longest-outage) n ≡ false → toNat n ≤ 48)
-    (λ e. omega (arith, not-above 0 n e)) (λ e. omega (arith, not-above 3 n e)) (λ e. not-above 48 n e) (λ e. omega (arith, not-above 0 n e)) kind
+    each-kind (λ z. ltZ (kind-row z .longest-outage) n ≡ false → toNat n ≤ 48)
+    (λ e. omega (arith, not-above 3 n e)) (λ e. not-above 48 n e) (λ e. omega (arith, not-above 0 n e))
+    (λ z none a b c e. omega (arith, not-above 0 n (rw none at e))) kind
 
 module _ (now : ℕ) (c : List ℤ) (m n : ℤ) where
   pub outage-passed : outage-number now c m n ≡ 0 → (toNat m ≤ now) × (toNat n ≤ 48)

@@ -1,0 +1,105 @@
+-- Each sentence that names a kind, by the rows of the table.
+use mathlib.Core.Path.{_≡_, refl, sym, _∙_, ap}
+use mathlib.Core.Bool.{Bool, true, false, cond, not, _&&_, _||_, false≢true}
+use mathlib.Core.List.{List}
+use Prim.Native.Nat.{ℕ, zero, suc, _≤_}
+use native.Mathlib.Omega.{arith}
+use lib.Dec.{leb, ltb, eqb}
+use lib.IntN.{ℤ, pos, negsuc}
+use lib.Signed.{ltZ}
+use borrow.Author.Tests.{lt-ltb, le-leb, lt-leb, ne-eqb}
+use Rattle.offer_rules.specs.Numbers.{eqZ, between, beyond, any-beyond}
+use Rattle.offer_rules.specs.Kinds.{Kind, kind-row, is-in, is-kind, may-offer, may-be-marked, admits}
+use Rattle.offer_rules.specs.Offer.{kind-of, is-energy, is-reserve, max-proportion, proportion, proportion-refused}
+use Rattle.offer_rules.specs.Gate.{Grounds, covers, reason-met, reason-holds}
+use Rattle.offer_rules.proofs.Drawn.{and-false, or-false}
+use Rattle.offer_rules.proofs.KindRows.{each-kind}
+use Rattle.book_rules.specs.Refusals.{has-kind, outage-refused, is-registered, any-mark-astray, marks-refused, registration-refused}
+use Rattle.book_rules.specs.ByKind.{is-generation, is-load, is-link, ThreeKinds, Outages, Marks, Registrations, Proportions, Reasons}
+
+pub three-kinds : ThreeKinds
+unfolding ThreeKinds kind-row
+three-kinds = each-kind (λ z. is-kind z ≡ ((is-generation z || is-load z) || is-link z)) refl refl refl (λ z none a b c. ap (λ (k : Kind). k .known) none ∙ rw (a, b, c) refl)
+
+-- ---- of a facility that has a kind
+
+-- A property of the three kinds holds of every kind that the table knows.
+known : (P : ℤ → Type 0) → P (pos 1) → P (pos 2) → P (pos 3) → (kind : ℤ) → is-kind kind ≡ true → P kind
+unfolding kind-row
+known P generation load link =
+    each-kind (λ z. is-kind z ≡ true → P z) (λ e. generation) (λ e. load) (λ e. link) (λ z none a b c e. absurd (false≢true (sym (ap (λ (k : Kind). k .known) none) ∙ e)))
+
+or-true : (t : Bool) → (t || true) ≡ true
+or-true true = refl
+or-true false = refl
+
+and-true : (t : Bool) → (t && true) ≡ t
+and-true true = refl
+and-true false = refl
+
+-- No count is within 1 to 0.
+no-count : (n : ℤ) → beyond (pos 1) (pos 0) n ≡ true
+no-count (pos zero) = refl
+no-count (pos (suc n)) = rw (lt-ltb 0 (suc n) (omega arith), or-true (ltb (suc n) 1))
+no-count (negsuc n) = refl
+
+pub outages : Outages
+unfolding Outages has-kind kind-row
+outages now c m n =
+    known (λ z. (beyond (pos 0) (pos now) m || beyond (pos 1) (kind-row z .longest-outage) n)
+    ≡ ((beyond (pos 0) (pos now) m || beyond (pos 1) (cond (is-load z) (pos 48) (pos 3)) n) || is-link z))
+    (sym (or-false _)) (sym (or-false _)) (rw (no-count n, or-true (beyond (pos 0) (pos now) m), or-true (beyond (pos 0) (pos now) m || beyond (pos 1) (pos 3) n)) refl) (kind-of c)
+
+pub marks : Marks
+unfolding Marks has-kind kind-row marks-refused any-mark-astray
+marks c =
+    known (λ z.
+    (any-beyond (pos 0) (pos 1) c 12 5
+    || (((((false || (is-registered c 0 && not (may-be-marked z 0))) || (is-registered c 1 && not (may-be-marked z 1))) || (is-registered c 2 && not (may-be-marked z 2)))
+    || (is-registered c 3 && not (may-be-marked z 3))) || (is-registered c 4 && not (may-be-marked z 4))))
+    ≡ ((any-beyond (pos 0) (pos 1) c 12 5 || (is-load z && (is-registered c 0 || is-registered c 4)))
+    || (is-link z && (((is-registered c 1 || is-registered c 2) || is-registered c 3) || is-registered c 4))))
+    (simp (and-false, or-false)) (simp (and-false, and-true, or-false)) (simp (and-false, and-true, or-false)) (kind-of c)
+
+energy-alone : (s : ℕ) → between 0 0 s ≡ is-energy s
+energy-alone zero = refl
+energy-alone (suc n) = rw (lt-leb (suc n) 0 (omega arith), le-leb 0 (suc n) (omega arith), ne-eqb (suc n) 0 (λ e. omega arith)) refl
+
+pub registrations : Registrations
+unfolding Registrations has-kind kind-row
+registrations c s e h =
+    known (λ z. (not (is-registered c s) || not (may-offer z s)) ≡ (not (is-registered c s) || (is-link z && not (is-energy s))))
+    (rw all refl) (rw all refl) (rw (energy-alone s) refl) (kind-of c) e
+  where
+    all : between 0 4 s ≡ true
+    all = rw (le-leb 0 s (omega arith), le-leb s 4 h) refl
+
+pub proportions : Proportions
+unfolding Proportions proportion-refused kind-row
+proportions c s o =
+    each-kind (λ z. ((kind-row z .proportion-tested && is-reserve s) && (eqZ (proportion o) (pos 0) || ltZ (max-proportion c s) (proportion o)))
+    ≡ ((is-generation z && is-reserve s) && (eqZ (proportion o) (pos 0) || ltZ (max-proportion c s) (proportion o))))
+    refl refl refl (λ z none a b c. rw (none, a) refl) (kind-of c)
+
+-- ---- 17
+
+-- Whom a reason admits: the three kinds, and no other.
+whom : (reason : ℕ) (t : ℤ → Bool) → admits (pos 1) reason ≡ t (pos 1) → admits (pos 2) reason ≡ t (pos 2) → admits (pos 3) reason ≡ t (pos 3)
+    → ((z : ℤ) → kind-row z ≡ kind-row (pos 0) → eqZ z (pos 1) ≡ false → eqZ z (pos 2) ≡ false → t z ≡ admits (pos 0) reason)
+    → (z : ℤ) → admits z reason ≡ t z
+whom reason t generation load link other =
+    each-kind (λ z. admits z reason ≡ t z) generation load link
+    (λ z none a b c. ap (λ (k : Kind). is-in (k .reasons) reason) none ∙ sym (other z none a b))
+
+pub reasons : Reasons
+unfolding Reasons reason-holds reason-met kind-row
+reasons g s p old new =
+    let z = g .kind in
+    let unknown : (z : ℤ) → kind-row z ≡ kind-row (pos 0) → is-kind z ≡ false = λ z none. ap (λ (k : Kind). k .known) none in (
+      and-true (admits z 1) ∙ whom 1 is-generation refl refl refl (λ z none a b. a) z,
+      ap (λ (t : Bool). t && covers (g .outage) p) (whom 2 is-generation refl refl refl (λ z none a b. a) z),
+      ap (λ (t : Bool). t && ((is-energy s && covers (g .surplus) p) && ltb new old)) (whom 3 is-kind refl refl refl (λ z none a b. unknown z none) z),
+      ap (λ (t : Bool). t && (covers (g .shortfall) p && ltb old new)) (whom 4 is-kind refl refl refl (λ z none a b. unknown z none) z),
+      ap (λ (t : Bool). t && (covers (g .status) p && ltb old new)) (whom 5 is-kind refl refl refl (λ z none a b. unknown z none) z),
+      ap (λ (t : Bool). t && covers (g .outage) p) (whom 6 is-load refl refl refl (λ z none a b. b) z),
+    )
