@@ -23,11 +23,16 @@ three-kinds = each-kind (λ z. is-kind z ≡ ((is-generation z || is-load z) || 
 
 -- ---- of a facility that has a kind
 
--- A property of the three kinds holds of every kind that the table knows.
-known : (P : ℤ → Type 0) → P (pos 1) → P (pos 2) → P (pos 3) → (kind : ℤ) → is-kind kind ≡ true → P kind
+data Which (kind : ℤ) : Type 0 where
+  is-1 : kind ≡ pos 1 → Which kind
+  is-2 : kind ≡ pos 2 → Which kind
+  is-3 : kind ≡ pos 3 → Which kind
+
+which : (kind : ℤ) → is-kind kind ≡ true → Which kind
 unfolding kind-row
-known P generation load link =
-    each-kind (λ z. is-kind z ≡ true → P z) (λ e. generation) (λ e. load) (λ e. link) (λ z none a b c e. absurd (false≢true (sym (ap (λ (k : Kind). k .known) none) ∙ e)))
+which =
+    each-kind (λ z. is-kind z ≡ true → Which z) (λ e. is-1 refl) (λ e. is-2 refl) (λ e. is-3 refl)
+    (λ z none a b c e. absurd (false≢true (sym (ap (λ (k : Kind). k .known) none) ∙ e)))
 
 or-true : (t : Bool) → (t || true) ≡ true
 or-true true = refl
@@ -45,21 +50,25 @@ no-count (negsuc n) = refl
 
 pub outages : Outages
 unfolding Outages has-kind kind-row
-outages now c m n =
-    known (λ z. (beyond (pos 0) (pos now) m || beyond (pos 1) (kind-row z .longest-outage) n)
-    ≡ ((beyond (pos 0) (pos now) m || beyond (pos 1) (cond (is-load z) (pos 48) (pos 3)) n) || is-link z))
-    (sym (or-false _)) (sym (or-false _)) (rw (no-count n, or-true (beyond (pos 0) (pos now) m), or-true (beyond (pos 0) (pos now) m || beyond (pos 1) (pos 3) n)) refl) (kind-of c)
+outages now c m n h = go (which (kind-of c) h)
+  where
+    go : Which (kind-of c)
+        → outage-refused now c m n ≡ ((beyond (pos 0) (pos now) m || beyond (pos 1) (cond (is-load (kind-of c)) (pos 48) (pos 3)) n) || is-link (kind-of c))
+    go (is-1 e) = rw e (sym (or-false _))
+    go (is-2 e) = rw e (sym (or-false _))
+    go (is-3 e) = rw e (simp (no-count, or-true))
 
 pub marks : Marks
 unfolding Marks has-kind kind-row marks-refused any-mark-astray
-marks c =
-    known (λ z.
-    (any-beyond (pos 0) (pos 1) c 12 5
-    || (((((false || (is-registered c 0 && not (may-be-marked z 0))) || (is-registered c 1 && not (may-be-marked z 1))) || (is-registered c 2 && not (may-be-marked z 2)))
-    || (is-registered c 3 && not (may-be-marked z 3))) || (is-registered c 4 && not (may-be-marked z 4))))
-    ≡ ((any-beyond (pos 0) (pos 1) c 12 5 || (is-load z && (is-registered c 0 || is-registered c 4)))
-    || (is-link z && (((is-registered c 1 || is-registered c 2) || is-registered c 3) || is-registered c 4))))
-    (simp (and-false, or-false)) (simp (and-false, and-true, or-false)) (simp (and-false, and-true, or-false)) (kind-of c)
+marks c h = go (which (kind-of c) h)
+  where
+    go : Which (kind-of c)
+        → marks-refused c
+        ≡ ((any-beyond (pos 0) (pos 1) c 12 5 || (is-load (kind-of c) && (is-registered c 0 || is-registered c 4)))
+        || (is-link (kind-of c) && (((is-registered c 1 || is-registered c 2) || is-registered c 3) || is-registered c 4)))
+    go (is-1 e) = rw e (simp (and-false, or-false))
+    go (is-2 e) = rw e (simp (and-false, and-true, or-false))
+    go (is-3 e) = rw e (simp (and-false, and-true, or-false))
 
 energy-alone : (s : ℕ) → between 0 0 s ≡ is-energy s
 energy-alone zero = refl
@@ -67,19 +76,21 @@ energy-alone (suc n) = rw (lt-leb (suc n) 0 (omega arith), le-leb 0 (suc n) (ome
 
 pub registrations : Registrations
 unfolding Registrations has-kind kind-row
-registrations c s e h =
-    known (λ z. (not (is-registered c s) || not (may-offer z s)) ≡ (not (is-registered c s) || (is-link z && not (is-energy s))))
-    (rw all refl) (rw all refl) (rw (energy-alone s) refl) (kind-of c) e
+registrations c s h low = go (which (kind-of c) h)
   where
     all : between 0 4 s ≡ true
-    all = rw (le-leb 0 s (omega arith), le-leb s 4 h) refl
+    all = rw (le-leb 0 s (omega arith), le-leb s 4 low) refl
+
+    go : Which (kind-of c) → registration-refused c s ≡ (not (is-registered c s) || (is-link (kind-of c) && not (is-energy s)))
+    go (is-1 e) = rw (e, all) refl
+    go (is-2 e) = rw (e, all) refl
+    go (is-3 e) = rw (e, energy-alone s) refl
 
 pub proportions : Proportions
 unfolding Proportions proportion-refused kind-row
 proportions c s o =
-    each-kind (λ z. ((kind-row z .proportion-tested && is-reserve s) && (eqZ (proportion o) (pos 0) || ltZ (max-proportion c s) (proportion o)))
-    ≡ ((is-generation z && is-reserve s) && (eqZ (proportion o) (pos 0) || ltZ (max-proportion c s) (proportion o))))
-    refl refl refl (λ z none a b c. rw (none, a) refl) (kind-of c)
+    ap (λ (t : Bool). (t && is-reserve s) && (eqZ (proportion o) (pos 0) || ltZ (max-proportion c s) (proportion o)))
+    (each-kind (λ z. kind-row z .proportion-tested ≡ is-generation z) refl refl refl (λ z none a b c. ap (λ (k : Kind). k .proportion-tested) none ∙ sym a) (kind-of c))
 
 -- ---- 17
 
