@@ -153,7 +153,7 @@ enum {
     BILZHAAN_NOTICE_REFUSED = 7,       /* outage, notice or withdrawal out of range; any outage of a link */
     BILZHAAN_CAPABILITY_REFUSED = 8,   /* kind, maxima or marks out of range, or another kind than the held one */
     /* the coordinator who files an offer */
-    BILZHAAN_NOT_REGISTERED = 9,       /* the facility isn't registered for the service; a link for energy alone */
+    BILZHAAN_NOT_REGISTERED = 9,       /* the facility isn't registered for the service */
     BILZHAAN_PERIOD_REFUSED = 10,      /* no such slot; period begun or past the horizon (look-up and total too) */
     BILZHAAN_OUT_OF_RANGE = 11,        /* reason, quantity or price */
     BILZHAAN_PRICED_BLANK = 12,        /* quantity 0 with a price */

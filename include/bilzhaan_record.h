@@ -218,7 +218,8 @@ static inline const char *bilzhaan_number_text(uint32_t number)
                "maximum outside 0 to 999.9 MW/min; a proportion maximum outside 0 to 1.000; a mark not 0 or 1; a load "
                "marked for energy or regulation; a link marked for anything but energy.";
     case BILZHAAN_NOT_REGISTERED:
-        return "The facility's mark for the service is not 1: it isn't registered for it. A link is for energy alone.";
+        return "The facility isn't registered for the service: its mark is not 1; or it is a link, and the service is "
+               "not energy.";
     case BILZHAAN_PERIOD_REFUSED:
         return "Standing offer: slot outside 0 to 335. Variation, look-up, total: the period has begun (30*P <= "
                "clock), or P >= 48*(d + 7), d being the clock's day.";

@@ -1182,8 +1182,7 @@ class Brief(Tool):
             'no.  call            service          period    day  time   answer',
             '  1  capability                                             accepted   link, 100.0 MW, combined 100.0 MW, registered for energy',
             '  2  outage                                   0 Mon  01:40  refused 7  notice refused: outage out of range, or of a link',
-            "  3  standing offer  primary reserve  slot 4    Mon  02:00  refused 9  not registered: the facility isn't registered for the service;"
-            ' a link for energy alone'])
+            "  3  standing offer  primary reserve  slot 4    Mon  02:00  refused 9  not registered: the facility isn't registered for the service"])
 
     def test_without_answers(self):
         self.assertEqual(self.table('variation --facility 0 --service primary --period 5 --proportion 5 --mw 1@2,0@0,3@4', None), [

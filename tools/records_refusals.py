@@ -31,8 +31,8 @@ REFUSALS = {
                'Capability: kind not 1, 2 or 3, or not the kind held; a maximum outside 0 to 9,999.9 MW; a ramp maximum outside 0 to 999.9 MW/min;'
                ' a proportion maximum outside 0 to 1.000; a mark not 0 or 1; a load marked for energy or regulation; a link marked for anything but energy.',
                'That value. A kind, once held, never changes.'),
-    9: Refusal('not registered', "the facility isn't registered for the service; a link for energy alone", COORDINATOR,
-               "The facility's mark for the service is not 1: it isn't registered for it. A link is for energy alone.",
+    9: Refusal('not registered', "the facility isn't registered for the service", COORDINATOR,
+               "The facility isn't registered for the service: its mark is not 1; or it is a link, and the service is not energy.",
                'The service; or have the capability filed with the mark.'),
     10: Refusal('period refused', 'no such slot; period begun or past the horizon (look-up and total too)', 'the coordinator or reader',
                 'Standing offer: slot outside 0 to 335. Variation, look-up, total: the period has begun (30 P <= clock), or P >= 48 (d + 7),'
