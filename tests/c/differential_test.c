@@ -121,6 +121,10 @@ static void damaged_near_gate(struct list *l, struct random *r, struct scene *sc
     size_t variation = place_of_cell(scene->facilities, scene->services, f, s, 1, period % 336);
     set_both(l, block, one_in(r, 6) ? odd_value(r) : (int32_t)between(r, 1, 3));
     set_both(l, block + 12 + (size_t)s, 1);
+    if (one_in(r, 4)) { /* a link has no outage window by calls */
+        set_both(l, block + 17, (int32_t)period - 1);
+        set_both(l, block + 18, (int32_t)period + 1);
+    }
     int which = (int)between(r, 0, 3);
     if (which != 1)
         damaged_offer(l, r, standing, one_in(r, 8) ? odd_value(r) : 1);

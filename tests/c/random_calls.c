@@ -275,7 +275,7 @@ static int some_reason(struct random *r, const struct scene *scene, int f, int s
     if (block[0] == 1)
         holding[count++] = 1;
     if (block[17] <= period && period <= block[18])
-        holding[count++] = block[0] == 1 ? 2 : 6;
+        holding[count++] = block[0] == 1 || (block[0] == 3 && one_in(r, 2)) ? 2 : 6;
     for (int i = 0; i < 3; i++)
         if (notices[2 * i] <= period && period <= notices[2 * i + 1] && (i > 0 || s == 0))
             holding[count++] = 3 + i;
@@ -441,6 +441,8 @@ static struct record some_capability(struct random *r, const struct scene *scene
     }
     if (!one_in(r, 20))
         clear_marks(w);
+    if (one_in(r, 20))
+        w[between(r, 12, 16)] = 1;
     if (one_in(r, 12)) {
         int i = (int)between(r, 0, 16);
         w[i] = one_in(r, 3) ? any_word(r) : one_in(r, 2) ? -1 : highest[i] + 1;
