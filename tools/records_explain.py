@@ -64,7 +64,7 @@ def capability_rows(words):
 
 
 def outage_window(minute, count):
-    if not (0 <= minute and 1 <= count <= 48):
+    if minute < 0 or not kinds_with(lambda kind: 1 <= count <= kind.outage):
         return 'none'
     return f'periods {minute // 30 + 1} to {minute // 30 + count}'
 
