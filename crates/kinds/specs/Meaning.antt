@@ -6,8 +6,8 @@ use Rattle.kinds.specs.declared.Kind.{Kind}
 abbrev pub range-of : Range → rule.Range
 range-of r = record { first = r .first; last = r .last }
 
-abbrev pub kind-of : Kind → rule.Kind
-kind-of k = record {
+abbrev pub row-of : Kind → rule.Kind
+row-of k = record {
   known = k .known;
   offers = range-of (k .offers);
   marks = range-of (k .marks);

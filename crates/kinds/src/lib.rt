@@ -1,7 +1,7 @@
-// What each kind of facility may do, one row for each: read by refusals 5, 7, 8, 9, 15 and 17.
+// What each kind of facility may do, one row for each, as in offer_rules (specs/Kinds): read by 5, 7, 8, 9, 15 and 17.
 ghost use mathlib.Core.Path.{_≡_};
 ghost use Rattle.offer_rules.specs.Kinds.{kind-row, is-in, is-kind, may-offer, admits};
-ghost use Rattle.kinds.specs.Meaning.{range-of, kind-of};
+ghost use Rattle.kinds.specs.Meaning.{range-of, row-of};
 
 // From first to last.
 pub struct Range {
@@ -9,7 +9,7 @@ pub struct Range {
     pub last: u8,
 }
 
-pub struct Kind {
+struct Kind {
     pub known: bool,
     pub offers: Range,
     pub marks: Range,
@@ -25,8 +25,8 @@ pub fn is_in(range: Range, n: u8) -> bool
 }
 
 // "Facility kinds: 1 generation, 2 load"; 3 link.
-pub fn kind_row(kind: i32) -> Kind
-    ensures { λ r. ⌜ kind-of r ≡ kind-row kind ⌝ }
+fn kind_row(kind: i32) -> Kind
+    ensures { λ r. ⌜ row-of r ≡ kind-row kind ⌝ }
 {
     match kind {
         1 => Kind {
@@ -64,37 +64,42 @@ pub fn kind_row(kind: i32) -> Kind
     }
 }
 
+// 5 and 8.
 pub fn is_kind(kind: i32) -> bool
     ensures { λ r. ⌜ r ≡ is-kind kind ⌝ }
 {
     kind_row(kind).known
 }
 
-// "It offers energy only", of a link.
+// 9.
 pub fn may_offer(kind: i32, service: u8) -> bool
     ensures { λ r. ⌜ r ≡ may-offer kind service ⌝ }
 {
     is_in(kind_row(kind).offers, service)
 }
 
+// 17.
 pub fn admits(kind: i32, reason: u8) -> bool
     ensures { λ r. ⌜ r ≡ admits kind reason ⌝ }
 {
     is_in(kind_row(kind).reasons, reason)
 }
 
+// 8: the services for which it may be registered.
 pub fn marks(kind: i32) -> Range
     ensures { λ r. ⌜ range-of r ≡ kind-row kind .marks ⌝ }
 {
     kind_row(kind).marks
 }
 
+// 7: its most periods; 0 where it has no outages.
 pub fn longest_outage(kind: i32) -> i32
     ensures { λ r. ⌜ r ≡ kind-row kind .longest-outage ⌝ }
 {
     kind_row(kind).longest_outage
 }
 
+// 15.
 pub fn is_proportion_tested(kind: i32) -> bool
     ensures { λ r. ⌜ r ≡ kind-row kind .proportion-tested ⌝ }
 {
