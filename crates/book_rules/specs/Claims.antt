@@ -59,7 +59,8 @@ unfoldable pub EveryList : Type 0
 EveryList = (w : List ℤ) (F S : ℤ) (limits : List ℤ) → length limits ≡ 6 → opening-number w F S limits ≡ 0
     → (bs : List (List ℕ)) → book-answers (opening-words w F S limits) bs ≡ list-answers (toNat F) (toNat S) limits [] bs
 
--- "Filings are calls 2 to 5, each for the facility in byte 6": a filing for another facility than f.
+-- "Filings are calls 2 to 5, each for the facility in byte 6": a filing for another facility than f, of whatever kind.
+-- "Striking out filings for other facilities covers links too" (document 02).
 unfoldable pub is-others-filing : ℕ → List ℕ → Bool
 is-others-filing f b = between 2 5 (call-of b) && not (eqb (facility-of b) f)
 
