@@ -1,17 +1,16 @@
 -- Each sentence that names a kind, by the rows of the table.
 use mathlib.Core.Path.{_≡_, refl, sym, _∙_, ap}
 use mathlib.Core.Bool.{Bool, true, false, cond, not, _&&_, _||_, false≢true}
-use mathlib.Core.List.{List}
-use Prim.Native.Nat.{ℕ, zero, suc, _≤_}
+use Prim.Native.Nat.{ℕ, zero, suc}
 use native.Mathlib.Omega.{arith}
-use lib.Dec.{leb, ltb, eqb}
+use lib.Dec.{ltb}
 use lib.IntN.{ℤ, pos, negsuc}
 use lib.Signed.{ltZ}
 use borrow.Author.Tests.{lt-ltb, le-leb, lt-leb, ne-eqb}
 use Rattle.offer_rules.specs.Numbers.{eqZ, between, beyond, any-beyond}
-use Rattle.offer_rules.specs.Kinds.{Kind, kind-row, is-in, is-kind, may-offer, may-be-marked, admits}
+use Rattle.offer_rules.specs.Kinds.{Kind, kind-row, is-in, is-kind, admits}
 use Rattle.offer_rules.specs.Offer.{kind-of, is-energy, is-reserve, max-proportion, proportion, proportion-refused}
-use Rattle.offer_rules.specs.Gate.{Grounds, covers, reason-met, reason-holds}
+use Rattle.offer_rules.specs.Gate.{covers, reason-met, reason-holds}
 use Rattle.offer_rules.proofs.Drawn.{and-false, or-false}
 use Rattle.offer_rules.proofs.KindRows.{each-kind}
 use Rattle.book_rules.specs.Refusals.{has-kind, outage-refused, is-registered, any-mark-astray, marks-refused, registration-refused}

@@ -127,7 +127,7 @@ cases =
     ∷ record { book = fresh-book; before = []; last = link-capability 1300 800 (replicate 4 (pos 0) ++ (pos 1 ∷ [])); answered = draws 8 }
     -- "An outage call for it is refused with 7"
     ∷ record { book = fresh-book; before = link ∷ (clock 56 ∷ []); last = outage 56 3; answered = draws 7 }
-    -- "Reasons 3, 4 and 5 are open to it; 1, 2 and 6 are not": 2 not by its kind either, where a damaged book has an outage
+    -- "Reasons 3, 4 and 5 are open to it; 1, 2 and 6 are not": 2 is shut to it also where a damaged book has an outage over P
     ∷ record { book = fresh-book; before = link-gate-shut; last = variation 4 4 (500 at 4000 ∷ (300 at 5000 ∷ [])); answered = passes }
     ∷ record { book = fresh-book; before = link-gate-shut; last = variation 4 1 (500 at 4000 ∷ (300 at 5000 ∷ [])); answered = draws 17 }
     ∷ record { book = fresh-book; before = link-gate-shut; last = variation 4 2 (500 at 4000 ∷ (300 at 5000 ∷ [])); answered = draws 17 }
