@@ -109,12 +109,12 @@ enum {
 /* Byte 12 of a variation: why it is filed after gate closure. 3, 4 and 5 are also the kinds of advisory notice. */
 enum {
     BILZHAAN_REASON_NONE = 0,
-    BILZHAAN_REASON_SYNCHRONISATION = 1,
+    BILZHAAN_REASON_SYNCHRONISATION = 1, /* 1 and 2: generation alone */
     BILZHAAN_REASON_FORCED_OUTAGE = 2,
     BILZHAAN_REASON_ENERGY_SURPLUS = 3,
     BILZHAAN_REASON_SHORTFALL = 4,
     BILZHAAN_REASON_SYSTEM_STATUS = 5,
-    BILZHAAN_REASON_LOAD_OUTAGE = 6
+    BILZHAAN_REASON_LOAD_OUTAGE = 6 /* load alone */
 };
 
 enum {

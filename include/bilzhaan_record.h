@@ -29,7 +29,7 @@ struct bilzhaan_capability {
     int32_t facility;
     int32_t kind;              /* BILZHAAN_GENERATION, BILZHAAN_LOAD or BILZHAAN_LINK */
     int32_t max_generation;    /* tenths of a MW, to max_regulation; of a link: its import capacity */
-    int32_t max_combined;
+    int32_t max_combined;      /* energy is held to both, a link's as well: left 0, every quantity draws 16 */
     int32_t max_reserve[3];    /* primary, secondary, contingency */
     int32_t max_regulation;
     int32_t max_ramp_up;       /* tenths of a MW per minute */
@@ -211,8 +211,8 @@ static inline const char *bilzhaan_number_text(uint32_t number)
     case BILZHAAN_CLOCK_REFUSED:
         return "The minute is below the clock or above 1,000,000,000.";
     case BILZHAAN_NOTICE_REFUSED:
-        return "Outage: of a link, not 0 <= minute <= clock, or n outside 1 to 3 (load 1 to 48). Notice: kind not 3 "
-               "to 5, or not 0 <= first <= last <= 40,000,000. Withdrawal: kind not 5.";
+        return "Outage: not 0 <= minute <= clock, or n outside 1 to 3 (load 1 to 48), or any of a link. Notice: kind "
+               "not 3 to 5, or not 0 <= first <= last <= 40,000,000. Withdrawal: kind not 5.";
     case BILZHAAN_CAPABILITY_REFUSED:
         return "Capability: kind not 1, 2 or 3, or not the kind held; a maximum outside 0 to 9,999.9 MW; a ramp "
                "maximum outside 0 to 999.9 MW/min; a proportion maximum outside 0 to 1.000; a mark not 0 or 1; a load "

@@ -241,9 +241,9 @@ class BadArguments(Tool):
         ('capability --facility 0 --kind pump', "'pump' is no kind: generation, load, link, or a number"),
         ('capability --facility 0 --kind 4', 'refuses this with 8 or a lower number: the kind is not 1 (generation), 2 (load) or 3 (link)'),
         ('capability --facility 0 --kind 0', 'refuses this with 8'),
-        ('capability --facility 0 --kind load --registered energy', 'refuses this with 8 or a lower number: a load is not registered for energy'),
-        ('capability --facility 0 --kind link --registered primary', 'refuses this with 8 or a lower number: a link is not registered for primary'),
-        ('capability --facility 0 --kind link --registered 0,3,4', 'a link is not registered for contingency, regulation'),
+        ('capability --facility 0 --kind load --registered energy', 'refuses this with 8 or a lower number: a load may not be registered for energy'),
+        ('capability --facility 0 --kind link --registered primary', 'refuses this with 8 or a lower number: a link may not be registered for primary'),
+        ('capability --facility 0 --kind link --registered 0,3,4', 'a link may not be registered for contingency, regulation'),
         ('capability --facility 0 --kind load --registered primary,1', 'names a service twice'),
         ('capability --facility 0 --kind load --registered primary,,', "is no service"),
         ('capability --facility 0 --kind 1 --max-generation 100000', 'refuses this with 8'),
@@ -702,15 +702,19 @@ class Shown(Tool):
                 text = self.rows(f'{line} --facility 0 --service {service} --pairs 1@1')['service']
                 self.assertTrue(text.endswith(f' (offered by {kinds})'), text)
             self.assertNotIn('(', self.rows(f'look-up --facility 0 --service {service} --period 4')['service'])
-        reasons = ('no reason', 'synchronising profile (open to generation)', 'forced outage (open to generation)',
-                   'energy surplus notice (open to generation, load or link)', 'shortfall notice (open to generation, load or link)',
-                   'system status notice (open to generation, load or link)', 'outage of a load (open to load)')
-        for reason, text in enumerate(reasons):
-            self.assertEqual(self.rows(f'variation --facility 0 --service 0 --period 4 --reason {reason} --pairs 1@1')['reason'], f'{reason} {text}')
+        names = ('no reason', 'synchronising profile', 'forced outage', 'energy surplus notice', 'shortfall notice', 'system status notice', 'outage of a load')
+        no_kind = 'no kind for this service'
+        energy = (None, 'generation', 'generation', 'generation or link', 'generation or link', 'generation or link', no_kind)
+        reserve = (None, 'generation', 'generation', no_kind, 'generation or load', 'generation or load', 'load')
+        regulation = (None, 'generation', 'generation', no_kind, 'generation', 'generation', no_kind)
+        for service, kinds in enumerate((energy, reserve, reserve, reserve, regulation)):
+            for reason, (name, to) in enumerate(zip(names, kinds)):
+                text = self.rows(f'variation --facility 0 --service {service} --period 4 --reason {reason} --pairs 1@1')['reason']
+                self.assertEqual(text, f'{reason} {name} (open to {to})' if to else f'{reason} {name}')
         for count, text in ((1, '1 (for generation or load)'), (3, '3 (for generation or load)'), (4, '4 (for load)'), (48, '48 (for load)'), (49, '49'), (0, '0')):
             self.assertEqual(self.rows(f'outage --facility 0 --minute 5 --periods {count} --anyway')['periods'], text)
         rows = self.rows('capability --facility 0 --kind link --registered energy,regulation --anyway')
-        self.assertEqual((rows['kind'], rows['any book']), ('3 link', 'refuses it with 8 or a lower number: a link is not registered for regulation'))
+        self.assertEqual((rows['kind'], rows['any book']), ('3 link', 'refuses it with 8 or a lower number: a link may not be registered for regulation'))
 
     def test_what_any_book_refuses_is_said(self):
         rows = self.rows('standing --facility 0 --service energy --slot 4 --pairs 1@5000,1@4000 --anyway')

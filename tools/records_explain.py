@@ -75,6 +75,16 @@ def of_kinds(text, what, holds):
     return f'{text} ({what} {alternatives(names)})' if names else text
 
 
+def reason_text(r):
+    """Inside the gate: reason 3 is for energy alone, and a kind files only for the services that it may be registered for."""
+    def opens(kind):
+        return r.reason in kind.reasons and r.service in kind.marks and (r.reason != 3 or r.service == 0)
+    text = with_name(r.reason, REASON_TEXTS)
+    if 1 <= r.reason <= 6 and r.service < 5 and not kinds_with(opens):
+        return f'{text} (open to no kind for this service)'
+    return of_kinds(text, 'open to', opens)
+
+
 def field_rows(r):
     """Each field that the record's call uses."""
     rows = []
@@ -89,7 +99,7 @@ def field_rows(r):
     if r.call in (4, 8, 9):
         rows.append(('period', show_period(r.period)))
     if r.call == 4:
-        rows += [('reason', of_kinds(with_name(r.reason, REASON_TEXTS), 'open to', lambda kind: r.reason in kind.reasons)), open_row(r.period)]
+        rows += [('reason', reason_text(r)), open_row(r.period)]
     if r.call in (3, 4) and r.service < 5:
         rows += offer_rows(r.service, *used_offer(r))
     if takes_back(r):

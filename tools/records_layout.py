@@ -186,7 +186,7 @@ def capability_fault(r):
         (outside(w[7:9], 0, 9_999), 8, 'a ramp maximum is outside 0.0 to 999.9 MW/min'),
         (outside(w[9:12], 0, 1_000), 8, 'a proportion maximum is outside 0.000 to 1.000'),
         (outside(w[12:17], 0, 1), 8, 'a mark is not 0 or 1'),
-        (closed, 8, f"a {kind.name} is not registered for {', '.join(closed)}")])
+        (closed, 8, f"a {kind.name} may not be registered for {', '.join(closed)}")])
 
 
 def period_tests(r):

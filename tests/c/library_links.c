@@ -73,6 +73,15 @@ static void kinds_held(void)
     struct book b = book_for(1, 5);
     for (int32_t held = 1; held <= 3; held++) {
         EQUAL(bilzhaan_open(b.words, b.count, 1, 5, usual_limits), 0);
+        for (int32_t kind = -1; kind <= 5; kind++) { /* over none: no marks, and a link's */
+            int32_t bare[17] = {kind}, like_a_link[17];
+            copy_of(usual_link, like_a_link);
+            like_a_link[BILZHAAN_W_KIND] = kind;
+            if (kind < 1 || kind > 3) {
+                EQUAL(number_of(&b, capability_of(0, bare)), BILZHAAN_CAPABILITY_REFUSED);
+                EQUAL(number_of(&b, capability_of(0, like_a_link)), BILZHAAN_CAPABILITY_REFUSED);
+            }
+        }
         for (int32_t kind = -1; kind <= 5; kind++) {
             int32_t w[17] = {held};
             EQUAL(number_of(&b, capability_of(0, w)), 0);

@@ -120,7 +120,7 @@ static const struct facility_kind {
     {3, "0", "0", "345", "", 0},
 };
 
-static bool has_digit(const char *digits, int n) { return strchr(digits, '0' + n) != NULL; }
+static bool has_digit(const char *digits, int n) { return n <= 9 && strchr(digits, '0' + n) != NULL; }
 
 static const struct facility_kind *kind_numbered(int64_t number)
 {

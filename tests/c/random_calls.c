@@ -443,6 +443,8 @@ static struct record some_capability(struct random *r, const struct scene *scene
         clear_marks(w);
     if (one_in(r, 20))
         w[between(r, 12, 16)] = 1;
+    if (one_in(r, 20)) /* no kind, with marks that some kind may have */
+        w[0] = one_in(r, 2) ? 4 : 0;
     if (one_in(r, 12)) {
         int i = (int)between(r, 0, 16);
         w[i] = one_in(r, 3) ? any_word(r) : one_in(r, 2) ? -1 : highest[i] + 1;

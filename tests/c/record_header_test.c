@@ -245,7 +245,7 @@ static void taken_back(void)
 }
 
 /* A link's capability, field by name, and its energy. */
-static void link(void)
+static void import_link(void)
 {
     const struct bilzhaan_capability link = {.facility = 1, .kind = BILZHAAN_LINK, .max_generation = 90, .max_combined = 80,
                                              .registered = {1}};
@@ -281,7 +281,7 @@ int main(int count, char **arguments)
     out_of_range();
     answered();
     taken_back();
-    link();
+    import_link();
     texts();
     printf("%ld passed, %ld failed\n", passed, failed);
     return failed != 0;

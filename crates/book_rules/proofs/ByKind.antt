@@ -1,5 +1,5 @@
 -- Each sentence that names a kind, by the rows of the table.
-use mathlib.Core.Path.{_≡_, refl, sym, _∙_, ap}
+use mathlib.Core.Path.{_≡_, refl, sym, _∙_, ap, ap₂}
 use mathlib.Core.Bool.{Bool, true, false, cond, not, _&&_, _||_, false≢true}
 use Prim.Native.Nat.{ℕ, zero, suc}
 use native.Mathlib.Omega.{arith}
@@ -11,14 +11,22 @@ use Rattle.offer_rules.specs.Numbers.{eqZ, between, beyond, any-beyond}
 use Rattle.offer_rules.specs.Kinds.{Kind, kind-row, is-in, is-kind, admits}
 use Rattle.offer_rules.specs.Offer.{kind-of, is-energy, is-reserve, max-proportion, proportion, proportion-refused}
 use Rattle.offer_rules.specs.Gate.{covers, reason-met, reason-holds}
-use Rattle.offer_rules.proofs.Drawn.{and-false, or-false}
+use Rattle.offer_rules.proofs.Drawn.{and-false, and-true, or-false, or-true}
 use Rattle.offer_rules.proofs.KindRows.{each-kind}
-use Rattle.book_rules.specs.Refusals.{has-kind, outage-refused, is-registered, any-mark-astray, marks-refused, registration-refused}
-use Rattle.book_rules.specs.ByKind.{is-generation, is-load, is-link, ThreeKinds, Outages, Marks, Registrations, Proportions, Reasons}
+use Rattle.book_rules.specs.Refusals.{has-kind, outage-refused, kind-refused, is-registered, any-mark-astray, marks-refused, registration-refused}
+use Rattle.book_rules.specs.ByKind.{is-generation, is-load, is-link, is-one-of-three, ThreeKinds, HeldKinds, Outages, Marks, Registrations, Proportions, Reasons}
+
+the-three : (kind : ℤ) → is-kind kind ≡ is-one-of-three kind
+unfolding kind-row
+the-three = each-kind (λ z. is-kind z ≡ is-one-of-three z) refl refl refl (λ z none a b c. ap (λ (k : Kind). k .known) none ∙ rw (a, b, c) refl)
 
 pub three-kinds : ThreeKinds
-unfolding ThreeKinds kind-row
-three-kinds = each-kind (λ z. is-kind z ≡ ((is-generation z || is-load z) || is-link z)) refl refl refl (λ z none a b c. ap (λ (k : Kind). k .known) none ∙ rw (a, b, c) refl)
+unfolding ThreeKinds has-kind
+three-kinds c = the-three (kind-of c)
+
+pub held-kinds : HeldKinds
+unfolding HeldKinds kind-refused has-kind
+held-kinds held kind = ap₂ (λ (sent h : Bool). not sent || (h && not (eqZ (kind-of held) kind))) (the-three kind) (the-three (kind-of held))
 
 -- ---- of a facility that has a kind
 
@@ -32,14 +40,6 @@ unfolding kind-row
 which =
     each-kind (λ z. is-kind z ≡ true → Which z) (λ e. is-1 refl) (λ e. is-2 refl) (λ e. is-3 refl)
     (λ z none a b c e. absurd (false≢true (sym (ap (λ (k : Kind). k .known) none) ∙ e)))
-
-or-true : (t : Bool) → (t || true) ≡ true
-or-true true = refl
-or-true false = refl
-
-and-true : (t : Bool) → (t && true) ≡ t
-and-true true = refl
-and-true false = refl
 
 -- No count is within 1 to 0.
 no-count : (n : ℤ) → beyond (pos 1) (pos 0) n ≡ true

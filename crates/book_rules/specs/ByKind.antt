@@ -1,5 +1,6 @@
 -- Documents 01 and 02, kind by kind: each sentence that names a kind, held against the table of kinds (offer_rules Kinds).
--- Claims of every words for a capability, damaged ones included; their proofs are in proofs/ByKind.
+-- For every words of a capability, damaged ones included; 7, the marks of 8, and 9 of words that have a kind: where they have none, 5, or in call 2
+-- the kind's own 8, is drawn in any case. Claims; their proofs are in proofs/ByKind.
 use mathlib.Core.Path.{_≡_}
 use mathlib.Core.Bool.{Bool, true, cond, not, _&&_, _||_}
 use mathlib.Core.List.{List}
@@ -11,7 +12,7 @@ use Rattle.offer_rules.specs.Numbers.{eqZ, beyond, any-beyond}
 use Rattle.offer_rules.specs.Kinds.{is-kind}
 use Rattle.offer_rules.specs.Offer.{kind-of, is-energy, is-reserve, max-proportion, proportion, proportion-refused}
 use Rattle.offer_rules.specs.Gate.{Grounds, covers, reason-holds}
-use Rattle.book_rules.specs.Refusals.{has-kind, outage-refused, is-registered, marks-refused, registration-refused}
+use Rattle.book_rules.specs.Refusals.{has-kind, outage-refused, kind-refused, is-registered, marks-refused, registration-refused}
 
 -- "Facility kinds: 1 generation, 2 load"; "A cross-border link becomes facility kind 3"
 abbrev pub is-generation : ℤ → Bool
@@ -23,9 +24,17 @@ is-load kind = eqZ kind (pos 2)
 abbrev pub is-link : ℤ → Bool
 is-link kind = eqZ kind (pos 3)
 
--- "Refusals 5 and 8 read 1, 2 or 3 for the kind."
+abbrev pub is-one-of-three : ℤ → Bool
+is-one-of-three kind = (is-generation kind || is-load kind) || is-link kind
+
+-- 5 "facility has kind neither 1 nor 2 in the book"; "Refusals 5 and 8 read 1, 2 or 3 for the kind."
 unfoldable pub ThreeKinds : Type 0
-ThreeKinds = (kind : ℤ) → is-kind kind ≡ ((is-generation kind || is-load kind) || is-link kind)
+ThreeKinds = (c : List ℤ) → has-kind c ≡ is-one-of-three (kind-of c)
+
+-- 8 "kind not 1 or 2 or unlike a held 1 or 2", with 3 beside them
+unfoldable pub HeldKinds : Type 0
+HeldKinds = (held : List ℤ) (kind : ℤ)
+    → kind-refused held kind ≡ (not (is-one-of-three kind) || (is-one-of-three (kind-of held) && not (eqZ (kind-of held) kind)))
 
 -- 7 "not 0 ≤ m ≤ now, or n outside 1–3 (load 1–48)"; "An outage call for [a link] is refused with 7."
 unfoldable pub Outages : Type 0
@@ -49,7 +58,7 @@ unfoldable pub Proportions : Type 0
 Proportions = (c : List ℤ) (s : ℕ) (o : List ℤ)
     → proportion-refused c s o ≡ ((is-generation (kind-of c) && is-reserve s) && (eqZ (proportion o) (pos 0) || ltZ (max-proportion c s) (proportion o)))
 
--- 17, the list of reasons in "Gate"; "Reasons 3, 4 and 5 are open to [a link]; 1, 2 and 6 are not."
+-- 17, the list of reasons in "Gate"; "Reasons 3, 4 and 5 are open to [a link]; 1, 2 and 6 are not." A word that is no kind is admitted by none.
 unfoldable pub Reasons : Type 0
 Reasons = (g : Grounds) (s p old new : ℕ)
     → (reason-holds g s p old new 1 ≡ is-generation (g .kind))

@@ -53,7 +53,7 @@ withdrawal-number k = draw (withdrawal-refused k) 7
 abbrev pub is-registered : List ℤ → ℕ → Bool
 is-registered c s = eqZ (mark-for c s) (pos 1)
 
--- 8 "capability: kind not 1 or 2 or unlike a held 1 or 2"
+-- 8 "capability: kind not 1 or 2 or unlike a held 1 or 2"; "Refusals 5 and 8 read 1, 2 or 3 for the kind" (document 02)
 unfoldable pub kind-refused : List ℤ → ℤ → Bool
 kind-refused held kind = not (is-kind kind) || (has-kind held && not (eqZ (kind-of held) kind))
 

@@ -8,7 +8,7 @@ use Rattle.offer_rules.specs.Numbers.{word}
 use Rattle.book_rules.specs.Words.{put, facility-place, opening-words}
 use Rattle.book_rules.specs.Force.{Answer}
 use Rattle.book_rules.specs.Book.{book-answer, book-run}
-use Rattle.cases.specs.Records.{_at_, clock, capability-words, energy-mark, capability, link-capability, standing, standing-reserve, variation, outage, notice, look-up, look-up-reserve, total}
+use Rattle.cases.specs.Records.{_at_, clock, capability-words, energy-mark, capability, link-capability, standing, ramping, standing-reserve, variation, outage, notice, look-up, look-up-reserve, total}
 
 -- "a book of 16,224 words, all zero before opening, F 1, S 1, energy −4,500.00 to 4,500.00, others to 4,500.00"
 abbrev pub limits : List ℤ
@@ -125,19 +125,24 @@ cases =
     -- A link: "Its capability record may have mark 0 only, else 8"
     ∷ record { book = fresh-book; before = []; last = link; answered = passes }
     ∷ record { book = fresh-book; before = []; last = link-capability 1300 800 (replicate 4 (pos 0) ++ (pos 1 ∷ [])); answered = draws 8 }
+    -- "unlike a held 1 or 2", or 3
+    ∷ record { book = fresh-book; before = link ∷ []; last = plant; answered = draws 8 }
+    ∷ record { book = fresh-book; before = plant ∷ []; last = link; answered = draws 8 }
     -- "An outage call for it is refused with 7"
     ∷ record { book = fresh-book; before = link ∷ (clock 56 ∷ []); last = outage 56 3; answered = draws 7 }
-    -- "Reasons 3, 4 and 5 are open to it; 1, 2 and 6 are not": 2 is shut to it also where a damaged book has an outage over P
+    -- "Reasons 3, 4 and 5 are open to it; 1, 2 and 6 are not": 2 and 6 are shut to it also where a damaged book has an outage over P
     ∷ record { book = fresh-book; before = link-gate-shut; last = variation 4 4 (500 at 4000 ∷ (300 at 5000 ∷ [])); answered = passes }
     ∷ record { book = fresh-book; before = link-gate-shut; last = variation 4 1 (500 at 4000 ∷ (300 at 5000 ∷ [])); answered = draws 17 }
     ∷ record { book = fresh-book; before = link-gate-shut; last = variation 4 2 (500 at 4000 ∷ (300 at 5000 ∷ [])); answered = draws 17 }
     ∷ record { book = damaged-link fresh-book; before = clock 56 ∷ []; last = variation 4 2 (300 at 4000 ∷ []); answered = draws 17 }
+    ∷ record { book = damaged-link fresh-book; before = clock 56 ∷ []; last = variation 4 6 (300 at 4000 ∷ []); answered = draws 17 }
     -- "It offers energy only: refusal 9 also covers its offers for services 1 to 4", where a damaged book has the mark too; a look-up draws 19
     ∷ record { book = fresh-book; before = link ∷ (stands ∷ []); last = look-up 4; answered = reads 0 1 700 }
     ∷ record { book = wide-book; before = link ∷ []; last = standing-reserve 4 (100 at 4000 ∷ []); answered = draws 9 }
     ∷ record { book = damaged-link wide-book; before = []; last = standing-reserve 4 (100 at 4000 ∷ []); answered = draws 9 }
     ∷ record { book = wide-book; before = link ∷ []; last = look-up-reserve 4; answered = draws 19 }
-    -- Both maxima bind it: 130.0 against 130.0 and 80.0.
+    -- Ramps bind its energy, here against 0.0 MW/min, and both maxima: 130.0 against 130.0 and 80.0.
+    ∷ record { book = fresh-book; before = link ∷ []; last = ramping 1 (standing 4 (700 at 4000 ∷ [])); answered = draws 14 }
     ∷ record { book = fresh-book; before = link ∷ []; last = standing 4 (1300 at 4000 ∷ []); answered = draws 16 }
     ∷ []
 

@@ -2,7 +2,7 @@
 use mathlib.Core.List.{List, [], _∷_, _++_}
 use Prim.Native.Nat.{ℕ, _*_, _-_, _/_, _%_}
 use lib.IntN.{ℤ, pos, negsuc}
-use lib.ListN.{length, replicate}
+use lib.ListN.{length, take, drop, replicate}
 use Rattle.offer_rules.specs.Offer.{Pair}
 
 -- A signed word's four bytes, most significant first.
@@ -54,6 +54,10 @@ link-capability generation combined marks = record-bytes 2 0 0 (pos 0) 0 (pos 0)
 
 abbrev pub standing : ℕ → List Pair → List ℕ
 standing slot offer = record-bytes 3 0 0 (pos slot) 0 (pos 0) (pos 0) (pair-words offer)
+
+-- The same with a ramp-up rate.
+abbrev pub ramping : ℕ → List ℕ → List ℕ
+ramping rate r = take 16 r ++ (word-bytes (pos rate) ++ drop 20 r)
 
 -- For primary reserve.
 abbrev pub standing-reserve : ℕ → List Pair → List ℕ

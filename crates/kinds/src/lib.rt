@@ -24,11 +24,12 @@ pub fn is_in(range: Range, n: u8) -> bool
     (range.first <= n) & (n <= range.last)
 }
 
-// "Facility kinds: 1 generation, 2 load"; 3 link.
+// "Facility kinds: 1 generation, 2 load"; "A cross-border link becomes facility kind 3".
 fn kind_row(kind: i32) -> Kind
     ensures { λ r. ⌜ row-of r ≡ kind-row kind ⌝ }
 {
     match kind {
+        // generation
         1 => Kind {
             known: true,
             offers: Range { first: 0, last: 4 },
@@ -37,6 +38,7 @@ fn kind_row(kind: i32) -> Kind
             longest_outage: 3,
             proportion_tested: true,
         },
+        // load
         2 => Kind {
             known: true,
             offers: Range { first: 0, last: 4 },
@@ -45,6 +47,7 @@ fn kind_row(kind: i32) -> Kind
             longest_outage: 48,
             proportion_tested: false,
         },
+        // link
         3 => Kind {
             known: true,
             offers: Range { first: 0, last: 0 },
@@ -53,6 +56,7 @@ fn kind_row(kind: i32) -> Kind
             longest_outage: 0,
             proportion_tested: false,
         },
+        // no kind
         _ => Kind {
             known: false,
             offers: Range { first: 1, last: 0 },

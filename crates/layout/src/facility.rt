@@ -35,5 +35,3 @@ pub const PRIMARY_RESERVE: u8 = 1;
 pub const CONTINGENCY_RESERVE: u8 = 3;
 
 pub const REGULATION: u8 = 4;
-
-pub const SERVICES: u8 = 5;

@@ -19,6 +19,10 @@ pub and-false : (t : Bool) → (t && false) ≡ false
 and-false true = refl
 and-false false = refl
 
+pub and-true : (t : Bool) → (t && true) ≡ t
+and-true true = refl
+and-true false = refl
+
 pub or-left : (a b : Bool) → a || b ≡ false → a ≡ false
 or-left true b e = e
 or-left false b e = refl
@@ -30,6 +34,10 @@ or-right false b e = e
 pub or-false : (t : Bool) → (t || false) ≡ t
 or-false true = refl
 or-false false = refl
+
+pub or-true : (t : Bool) → (t || true) ≡ true
+or-true true = refl
+or-true false = refl
 
 pub then-eq : (n n′ m m′ : ℕ) → n ≡ n′ → (n ≡ 0 → m ≡ m′) → (n then m) ≡ (n′ then m′)
 unfolding _then_

@@ -28,7 +28,7 @@ pub record Kind : Type 0 where
   pub reasons : Range
   -- 7: the most periods of its outage; where that is 0, each count is outside 1 to 0
   pub longest-outage : ℤ
-  -- 15: its reserve is held against the maximum of its class
+  -- 15: its reserve proportion is tested
   pub proportion-tested : Bool
 
 unfoldable pub kind-row : ℤ → Kind
@@ -37,7 +37,7 @@ kind-row kind =
     cond (eqZ kind (pos 1)) (record { known = true; offers = 0 to 4; marks = 0 to 4; reasons = 1 to 5; longest-outage = pos 3; proportion-tested = true })
     -- load: not "with mark 0 or 4 set"; its offers go by its marks alone
     (cond (eqZ kind (pos 2)) (record { known = true; offers = 0 to 4; marks = 1 to 3; reasons = 3 to 6; longest-outage = pos 48; proportion-tested = false })
-    -- link: "It offers energy only"; "Reasons 3, 4 and 5 are open to it; 1, 2 and 6 are not"; "An outage call for it is refused"; "mark 0 only"
+    -- link, the market's import registered facility: "It offers energy only"; "Reasons 3, 4 and 5 are open to it; 1, 2 and 6 are not"; "An outage call for it is refused"; "mark 0 only"
     (cond (eqZ kind (pos 3)) (record { known = true; offers = 0 to 0; marks = 0 to 0; reasons = 3 to 5; longest-outage = pos 0; proportion-tested = false })
     -- no kind
     (record { known = false; offers = 1 to 0; marks = 1 to 0; reasons = 1 to 0; longest-outage = pos 0; proportion-tested = false })))

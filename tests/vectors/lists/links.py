@@ -58,9 +58,13 @@ def other_fields_of_a_link(t):
 
 
 def each_kind_over_each(t):
-    """A held kind stays: of 1, 2 and 3 over 1, 2 and 3 only the same is accepted, and kinds 0, 4 and -1 never are."""
+    """A held kind stays: of 1, 2 and 3 over 1, 2 and 3 only the same is accepted, and kinds such as 0, 4 and -1 never are, over none either."""
     t.open(3, 5)
     for f, held in enumerate((1, 2, 3)):
+        for kind in (0, 4, 5, -1, 259, LEAST, MOST):
+            for words in (BARE, LINK, LOAD, GENERATION):
+                t.call(capability(f, with_words(words, {0: kind})), 8)
+            t.call(look_up(f, 0, 100), 5)
         t.call(capability(f, with_words(BARE, {0: held})))
         for kind in (1, 2, 3, 0, 4, -1, 259, LEAST, MOST):
             t.call(capability(f, with_words(BARE, {0: kind, 1: 7})), 0 if kind == held else 8)
