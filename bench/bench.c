@@ -39,6 +39,7 @@ struct subject {
     open_function *open;
     call_function *call;
     int32_t *words;
+    int32_t *links; /* a book of as many facilities, all of them links */
     double best; /* nanoseconds a call */
 };
 
@@ -66,13 +67,13 @@ static uint32_t no_open(int32_t *words, size_t count, int32_t facilities, int32_
 }
 
 static struct subject subjects[] = {
-    {"library", bilzhaan_record_test, bilzhaan_open, bilzhaan_call, NULL, 0},
-    {"gcc -O2", gcc_o2_record_test, gcc_o2_open, gcc_o2_call, NULL, 0},
-    {"gcc -O3", gcc_o3_record_test, gcc_o3_open, gcc_o3_call, NULL, 0},
+    {"library", bilzhaan_record_test, bilzhaan_open, bilzhaan_call, NULL, NULL, 0},
+    {"gcc -O2", gcc_o2_record_test, gcc_o2_open, gcc_o2_call, NULL, NULL, 0},
+    {"gcc -O3", gcc_o3_record_test, gcc_o3_open, gcc_o3_call, NULL, NULL, 0},
 #ifdef WITH_CLANG
-    {"clang -O2", clang_o2_record_test, clang_o2_open, clang_o2_call, NULL, 0},
+    {"clang -O2", clang_o2_record_test, clang_o2_open, clang_o2_call, NULL, NULL, 0},
 #endif
-    {"loop", no_test, no_open, no_call, NULL, 0},
+    {"loop", no_test, no_open, no_call, NULL, NULL, 0},
 };
 enum { SUBJECTS = sizeof subjects / sizeof *subjects, BOOKS = SUBJECTS - 1 };
 
@@ -87,9 +88,10 @@ struct kind {
     struct record *hot, *scattered; /* filed in turn, over and over */
     size_t hot_count, scattered_count, length;
     int32_t facilities, services; /* for the opening */
+    bool of_links; /* on the book of links */
 };
 
-static struct kind kinds[40];
+static struct kind kinds[48];
 static int kind_count;
 static size_t keys = MOST_KEYS; /* fewer where instructions are counted */
 
@@ -115,7 +117,7 @@ static int below(int n)
 static struct key {
     int f, s;
     int32_t period;
-} *energy_keys, *reserve_keys, *gate_keys, *back_keys, *back_gate_keys;
+} *energy_keys, *reserve_keys, *gate_keys, *back_keys, *back_gate_keys, *link_gate_keys;
 static struct key total_keys[TOTAL_KEYS], read_keys[TOTAL_KEYS * F]; /* standing offers of every facility */
 
 static struct key *distinct_keys(size_t count, int service, int services, int first, int periods)
@@ -194,6 +196,11 @@ static struct record capability_for(struct key k, int step)
     int32_t w[17] = {1, 9000, 8000 + step, 3000, 3000, 3000, 2000, 50, 40, 500, 500, 500, 1, 1, 1, 1, 1};
     return capability_of(k.f, w);
 }
+static struct record link_for(struct key k, int step)
+{
+    int32_t w[17] = {3, 9000, 8000 + step, 3000, 3000, 3000, 2000, 50, 40, 500, 500, 500, 1, 0, 0, 0, 0};
+    return capability_of(k.f, w);
+}
 static struct record outage_for(struct key k, int step) { return outage_of(k.f, NOW - 60 * step, 3); }
 static struct record standing_for(struct key k, int step) { return full_offer(BILZHAAN_CALL_STANDING, k, 0, step); }
 static struct record variation_for(struct key k, int step) { return full_offer(BILZHAAN_CALL_VARIATION, k, 0, step); }
@@ -217,7 +224,7 @@ static struct record above_for(struct key k, int step)
 static struct record no_kind_for(struct key k, int step)
 {
     struct record r = capability_for(k, step);
-    set_w(&r, 0, 3);
+    set_w(&r, 0, 4);
     return r;
 }
 
@@ -287,6 +294,15 @@ static struct record last_tenths_differ_for(struct key k, int step)
     return r;
 }
 
+/* One tenth more for a shortfall, then one less for a surplus, and so by turns. */
+static struct record link_inside_gate_for(struct key k, int step)
+{
+    int reason = step == 0 ? BILZHAAN_REASON_SHORTFALL : BILZHAAN_REASON_ENERGY_SURPLUS;
+    struct record r = full_offer(BILZHAAN_CALL_VARIATION, k, reason, 0);
+    set_pair(&r, 9, 10000, step == 0 ? 21 : 20);
+    return r;
+}
+
 static struct record nothing_for(struct key k, int step)
 {
     k.s = BILZHAAN_REGULATION;
@@ -302,7 +318,7 @@ static struct record last_byte_for(struct key k, int step)
 
 static void make_kinds(void)
 {
-    size_t in_gate = keys < 256 ? keys : 256;
+    size_t in_gate = keys < 256 ? keys : 256, links_in_gate = keys < 128 ? keys : 128;
     energy_keys = distinct_keys(2 * keys, 0, 1, OPEN_PERIOD, 240);
     back_keys = energy_keys + keys;
     reserve_keys = distinct_keys(keys, 1, 3, OPEN_PERIOD, 240);
@@ -319,20 +335,29 @@ static void make_kinds(void)
         read_keys[i] = read_keys[j];
         read_keys[j] = swapped;
     }
+    link_gate_keys = distinct_keys(links_in_gate, 0, 1, FIRST_PERIOD, 2);
 
     add_one("1 clock", 0, clock_at(NOW));
     add_one("1 clock, backwards", 6, clock_at(NOW - 1));
     add_calls("2 capability", 0, energy_keys, keys, 1, capability_for);
+    add_calls("2 capability, of a link", 0, energy_keys, keys, 1, link_for)->of_links = true;
     add_calls("2 capability, no such kind", 8, energy_keys, keys, 1, no_kind_for);
     add_calls("2 capability, last word wrong", 8, energy_keys, keys, 1, last_mark_for);
     add_calls("3 standing, energy", 0, energy_keys, keys, 2, standing_for);
     add_calls("3 standing, reserve", 0, reserve_keys, keys, 2, standing_for);
+    add_calls("3 standing, energy of a link", 0, energy_keys, keys, 2, standing_for)->of_links = true;
+    add_calls("3 standing, reserve of a link", 9, reserve_keys, keys, 1, standing_for)->of_links = true;
     add_calls("3 standing, no such slot", 10, energy_keys, keys, 1, no_slot_for);
     add_calls("3 standing, prices don't rise", 13, energy_keys, keys, 1, falling_for);
     add_calls("3 standing, above capacity", 16, energy_keys, keys, 1, above_for);
     add_calls("4 variation, gate open, energy", 0, energy_keys, keys, 2, variation_for);
     add_calls("4 variation, gate open, reserve", 0, reserve_keys, keys, 2, variation_for);
+    add_calls("4 variation, gate open, energy of a link", 0, energy_keys, keys, 2, variation_for)->of_links = true;
     add_calls("4 variation, inside gate closure", 0, gate_keys, in_gate, 1, inside_gate_for);
+    add_calls("4 variation, inside gate closure, energy of a link", 0, link_gate_keys, links_in_gate, 2,
+              link_inside_gate_for)->of_links = true;
+    add_calls("4 variation, reason not open to a link", 17, link_gate_keys, links_in_gate, 1,
+              inside_gate_for)->of_links = true;
     add_calls("4 variation taken back, gate open", 0, back_keys, keys, 1, taken_back_for);
     add_calls("4 variation taken back, inside gate closure", 0, back_gate_keys, in_gate, 1, taken_back_inside_for);
     add_calls("4 variation, last tenths differ", 17, gate_keys, in_gate, 1, last_tenths_differ_for);
@@ -341,6 +366,7 @@ static void make_kinds(void)
     add_calls("4 variation, first price too high", 11, energy_keys, keys, 1, first_price_for);
     add_calls("5 outage", 0, energy_keys, keys, 2, outage_for);
     add_calls("5 outage, too long", 7, energy_keys, keys, 1, long_outage_for);
+    add_calls("5 outage, of a link", 7, energy_keys, keys, 1, outage_for)->of_links = true;
     add_one("6 notice", 0, notice_of(BILZHAAN_NOTICE_SHORTFALL, FIRST_PERIOD, FIRST_PERIOD + 4));
     add_one("6 notice, empty", 7, notice_of(BILZHAAN_NOTICE_SHORTFALL, FIRST_PERIOD + 4, FIRST_PERIOD));
     add_one("7 withdrawal", 0, withdrawal_of(BILZHAAN_NOTICE_SYSTEM_STATUS));
@@ -375,16 +401,17 @@ __attribute__((noinline)) uint64_t measured_calls(struct run *run)
     const struct kind *kind = run->kind;
     uint64_t seen = 0;
     size_t at = run->at, words = BILZHAAN_BOOK_WORDS(F, S);
+    int32_t *book = kind->of_links ? who->links : who->words;
     for (size_t i = 0; i < run->calls; i++) {
         const uint8_t *bytes = run->records[at].bytes;
         if (kind->what == CALL) {
-            struct bilzhaan_answer a = who->call(who->words, words, bytes, kind->length);
+            struct bilzhaan_answer a = who->call(book, words, bytes, kind->length);
             seen += (uint64_t)a.sum + (uint64_t)a.words[0] + ((uint64_t)(a.number != kind->expected) << 40);
         } else if (kind->what == RECORD_TEST) {
             uint32_t number = who->record_test(bytes, kind->length, F, S);
             seen += (uint64_t)(number != kind->expected) << 40;
         } else {
-            seen += (uint64_t)who->open(who->words, words, kind->facilities, kind->services, limits) << 40;
+            seen += (uint64_t)who->open(book, words, kind->facilities, kind->services, limits) << 40;
         }
         if (++at == run->count)
             at = 0;
@@ -400,14 +427,16 @@ static double nanoseconds(void)
     return (double)t.tv_sec * 1e9 + (double)t.tv_nsec;
 }
 
-static void file(const struct subject *who, struct record r)
+static void file_in(const struct subject *who, int32_t *book, struct record r)
 {
-    uint32_t number = who->call(who->words, BILZHAAN_BOOK_WORDS(F, S), r.bytes, sizeof r.bytes).number;
+    uint32_t number = who->call(book, BILZHAAN_BOOK_WORDS(F, S), r.bytes, sizeof r.bytes).number;
     if (number != 0) {
         fprintf(stderr, "%s refused a call of the setting with %" PRIu32 "\n", who->name, number);
         exit(1);
     }
 }
+
+static void file(const struct subject *who, struct record r) { file_in(who, who->words, r); }
 
 /* The book that every kind starts from: capabilities, the clock, outages, and the offers that are varied, taken back,
  * repeated or read. */
@@ -436,6 +465,25 @@ static void set_up(const struct subject *who)
     }
     for (int i = 0; i < TOTAL_KEYS * F; i++)
         file(who, standing_for(read_keys[i], 0));
+}
+
+/* The book of links: capabilities, the clock, notices, and the offers that are varied or repeated. */
+static void set_up_links(const struct subject *who)
+{
+    struct key k = {0, 0, 0};
+    if (who->open(who->links, BILZHAAN_BOOK_WORDS(F, S), F, S, limits) != 0)
+        exit(1);
+    file_in(who, who->links, clock_at(NOW));
+    for (k.f = 0; k.f < F; k.f++)
+        file_in(who, who->links, link_for(k, 0));
+    file_in(who, who->links, notice_of(BILZHAAN_NOTICE_ENERGY_SURPLUS, FIRST_PERIOD, FIRST_PERIOD + 1));
+    file_in(who, who->links, notice_of(BILZHAAN_NOTICE_SHORTFALL, FIRST_PERIOD, FIRST_PERIOD + 1));
+    for (size_t i = 0; i < keys; i++) {
+        file_in(who, who->links, standing_for(energy_keys[i], 1));
+        file_in(who, who->links, variation_for(energy_keys[i], 1));
+    }
+    for (size_t i = 0; i < (keys < 128 ? keys : 128); i++)
+        file_in(who, who->links, standing_for(link_gate_keys[i], 0));
 }
 
 /* One kind on every subject, `rounds` times; the least time counts. Each round begins with another subject, so that
@@ -478,9 +526,11 @@ int main(int argc, char **argv)
     make_kinds();
     for (int i = 0; i < BOOKS; i++) {
         subjects[i].words = calloc(BILZHAAN_BOOK_WORDS(F, S), 4);
-        if (!subjects[i].words)
+        subjects[i].links = calloc(BILZHAAN_BOOK_WORDS(F, S), 4);
+        if (!subjects[i].words || !subjects[i].links)
             return 2;
         set_up(&subjects[i]);
+        set_up_links(&subjects[i]);
     }
     for (int i = 0; i < kind_count; i++) {
         const struct kind *k = &kinds[i];
@@ -493,7 +543,7 @@ int main(int argc, char **argv)
     static const char *const names[2] = {"opening, 16,224 words", "opening, 5,163,072 words"};
     for (int i = 0; i < 2; i++) {
         struct record unused = clock_at(0);
-        struct kind k = {names[i], OPENING, 0, &unused, NULL, 1, 0, 0, sizes[i][0], sizes[i][1]};
+        struct kind k = {names[i], OPENING, 0, &unused, NULL, 1, 0, 0, sizes[i][0], sizes[i][1], false};
         measure(&k, "hot", &unused, 1, instructions ? 1 : i == 0 ? 256 : 4, rounds);
     }
     return 0;

@@ -36,8 +36,26 @@ static inline bool outside(int32_t n, int32_t low, int32_t high)
     return n < low || n > high;
 }
 
-/* generation or load */
-static inline bool is_kind(int32_t kind) { return !outside(kind, 1, 2); }
+/* What a facility may do, by its kind. A service, a mark's and a reason are a bit each. */
+static const struct kind {
+    uint8_t services, marks, reasons;
+    bool has_proportion; /* its reserve proportion is tested */
+    int32_t outage_most; /* periods */
+} kinds[] = {
+    [1] = {0x1F, 0x1F, 0x3E, true, 3},   /* generation */
+    [2] = {0x1F, 0x0E, 0x78, false, 48}, /* load; its marks alone say what it offers */
+    [3] = {0x01, 0x01, 0x38, false, 0},  /* link */
+};
+enum { KIND_LAST = sizeof kinds / sizeof kinds[0] - 1 };
+
+static inline bool is_kind(int32_t kind) { return !outside(kind, 1, KIND_LAST); }
+
+static inline bool has_bit(uint8_t bits, int i) { return bits >> i & 1; }
+
+static inline bool is_registered(const int32_t *block, int s)
+{
+    return block[12 + s] == 1 && has_bit(kinds[block[0]].services, s);
+}
 
 static inline bool sizes_ok(int32_t facilities, int32_t services)
 {
@@ -214,7 +232,7 @@ static int offer_number(const struct book *b, const uint8_t *r, const int32_t *b
             return 14;
         return o->total > block[1] || o->total > block[2] ? 16 : 0;
     }
-    if (s <= 3 && block[0] == 1 && (o->words[1] == 0 || o->words[1] > block[8 + s]))
+    if (s <= 3 && kinds[block[0]].has_proportion && (o->words[1] == 0 || o->words[1] > block[8 + s]))
         return 15;
     return o->total > block[2 + s] ? 16 : 0;
 }
@@ -272,20 +290,21 @@ static bool gate_refuses(const struct book *b, const uint8_t *r, int32_t period,
     if (30 * period - b->now >= 65) /* the horizon bounds period, so 30 * period fits */
         return false;
     int s = r[7], reason = r[12];
+    if (!has_bit(kinds[block[0]].reasons, reason)) /* 0 is in no kind's */
+        return true;
     const int32_t *old = in_force(b, r[6], s, period);
     int64_t old_total = gate_total(old);
     /* blanks alone take the variation back: what stands then is the standing offer, which may be damaged */
     const int32_t *new = o->total != 0 ? o->words : held_standing(b, r[6], s, period % SLOTS);
     int64_t new_total = o->total != 0 ? o->total : gate_total(new);
     const int32_t *notices = b->words + HEAD_NOTICES;
-    bool holds = false;
+    bool holds = true;
     switch (reason) {
-    case 1: holds = block[0] == 1; break;
-    case 2: holds = block[0] == 1 && in_window(block + BLOCK_OUTAGE, period); break;
+    case 2:
+    case 6: holds = in_window(block + BLOCK_OUTAGE, period); break;
     case 3: holds = s == 0 && in_window(notices, period) && new_total < old_total; break;
     case 4: holds = in_window(notices + 2, period) && new_total > old_total; break;
     case 5: holds = in_window(notices + 4, period) && new_total > old_total; break;
-    case 6: holds = block[0] == 2 && in_window(block + BLOCK_OUTAGE, period); break;
     }
     return !holds || (old && new && !same_prices(old, new));
 }
@@ -308,11 +327,12 @@ static int file_capability(const struct book *b, const uint8_t *r)
     int32_t kind = load(w);
     if (!is_kind(kind) || (is_kind(block[0]) && kind != block[0]))
         return 8;
-    for (int i = 1; i < 17; i++)
-        if (outside(load(w + 4 * i), 0, i <= 6 ? 99999 : i <= 8 ? 9999 : i <= 11 ? 1000 : 1))
+    for (int i = 1; i < 12; i++)
+        if (outside(load(w + 4 * i), 0, i <= 6 ? 99999 : i <= 8 ? 9999 : 1000))
             return 8;
-    if (kind == 2 && (load(w + 4 * 12) != 0 || load(w + 4 * 16) != 0))
-        return 8;
+    for (int s = 0; s < 5; s++)
+        if (outside(load(w + 4 * (12 + s)), 0, has_bit(kinds[kind].marks, s)))
+            return 8;
     for (int i = 0; i < 17; i++)
         block[i] = load(w + 4 * i);
     return 0;
@@ -324,7 +344,7 @@ static int file_standing(const struct book *b, const uint8_t *r)
     const int32_t *block = block_of(b, r[6]);
     if (!is_kind(block[0]))
         return 5;
-    if (block[12 + r[7]] != 1)
+    if (!is_registered(block, r[7]))
         return 9;
     int32_t slot = load(r + 8);
     if (outside(slot, 0, SLOTS - 1))
@@ -350,7 +370,7 @@ static int file_variation(const struct book *b, const uint8_t *r)
     const int32_t *block = block_of(b, r[6]);
     if (!is_kind(block[0]))
         return 5;
-    if (block[12 + r[7]] != 1)
+    if (!is_registered(block, r[7]))
         return 9;
     int32_t period = load(r + 8);
     if (period_refused(b->now, period))
@@ -376,7 +396,7 @@ static int file_outage(const struct book *b, const uint8_t *r)
     int32_t minute = load(r + 24), periods = load(r + 28);
     if (!is_kind(block[0]))
         return 5;
-    if (outside(minute, 0, b->now) || outside(periods, 1, block[0] == 2 ? 48 : 3))
+    if (outside(minute, 0, b->now) || outside(periods, 1, kinds[block[0]].outage_most))
         return 7;
     block[BLOCK_OUTAGE] = minute / 30 + 1;
     block[BLOCK_OUTAGE + 1] = minute / 30 + periods;
@@ -419,7 +439,7 @@ static inline struct bilzhaan_answer numbered(int number)
 
 static struct bilzhaan_answer look_up(const struct book *b, const uint8_t *r)
 {
-    if (outside(block_of(b, r[6])[0], 1, 2))
+    if (!is_kind(block_of(b, r[6])[0]))
         return numbered(5);
     int32_t period = load(r + 8);
     if (period_refused(b->now, period))

@@ -32,8 +32,8 @@
 
 /* ---- versions and sizes ---- */
 
-/* This header's version, 1.1.0: 10,000 times the first number, 100 times the second, and the third. */
-#define BILZHAAN_VERSION 10100
+/* This header's version, 1.2.0: 10,000 times the first number, 100 times the second, and the third. */
+#define BILZHAAN_VERSION 10200
 
 enum {
     BILZHAAN_BOOK_VERSION = 1,     /* head word 1 of the books that this version opens and reads */
@@ -99,17 +99,22 @@ enum {
     BILZHAAN_REGULATION = 4 /* five pairs */
 };
 
-enum { BILZHAAN_GENERATION = 1, BILZHAAN_LOAD = 2 };
+/* A facility's kind, which never changes once it is held. */
+enum {
+    BILZHAAN_GENERATION = 1,
+    BILZHAAN_LOAD = 2, /* registered for reserve alone */
+    BILZHAAN_LINK = 3  /* a cross-border link, the market's import registered facility: energy alone, and no outages */
+};
 
 /* Byte 12 of a variation: why it is filed after gate closure. 3, 4 and 5 are also the kinds of advisory notice. */
 enum {
     BILZHAAN_REASON_NONE = 0,
-    BILZHAAN_REASON_SYNCHRONISATION = 1,
+    BILZHAAN_REASON_SYNCHRONISATION = 1, /* 1 and 2: generation alone */
     BILZHAAN_REASON_FORCED_OUTAGE = 2,
     BILZHAAN_REASON_ENERGY_SURPLUS = 3,
     BILZHAAN_REASON_SHORTFALL = 4,
     BILZHAAN_REASON_SYSTEM_STATUS = 5,
-    BILZHAAN_REASON_LOAD_OUTAGE = 6
+    BILZHAAN_REASON_LOAD_OUTAGE = 6 /* load alone */
 };
 
 enum {
@@ -121,8 +126,8 @@ enum {
 /* Words of a capability record: W0 + these. */
 enum {
     BILZHAAN_W_KIND = 0,
-    BILZHAAN_W_MAX_GENERATION = 1,
-    BILZHAAN_W_MAX_COMBINED = 2,
+    BILZHAAN_W_MAX_GENERATION = 1, /* of a link: its import capacity */
+    BILZHAAN_W_MAX_COMBINED = 2,   /* energy is held to both, a link's as well */
     BILZHAAN_W_MAX_RESERVE = 3,    /* W3 to W5 by reserve class */
     BILZHAAN_W_MAX_REGULATION = 6,
     BILZHAAN_W_MAX_RAMP_UP = 7,
@@ -145,7 +150,7 @@ enum {
     BILZHAAN_NO_KIND = 5,              /* the facility has no capability yet */
     /* clock and system operator */
     BILZHAAN_CLOCK_REFUSED = 6,        /* minute below the clock or above 1,000,000,000 */
-    BILZHAAN_NOTICE_REFUSED = 7,       /* outage, notice or withdrawal out of range */
+    BILZHAAN_NOTICE_REFUSED = 7,       /* outage, notice or withdrawal out of range; any outage of a link */
     BILZHAAN_CAPABILITY_REFUSED = 8,   /* kind, maxima or marks out of range, or another kind than the held one */
     /* the coordinator who files an offer */
     BILZHAAN_NOT_REGISTERED = 9,       /* the facility isn't registered for the service */

@@ -27,15 +27,15 @@ struct bilzhaan_offer {
 
 struct bilzhaan_capability {
     int32_t facility;
-    int32_t kind;              /* BILZHAAN_GENERATION or BILZHAAN_LOAD */
-    int32_t max_generation;    /* tenths of a MW, to max_regulation */
-    int32_t max_combined;
+    int32_t kind;              /* BILZHAAN_GENERATION, BILZHAAN_LOAD or BILZHAAN_LINK */
+    int32_t max_generation;    /* tenths of a MW, to max_regulation; of a link: its import capacity */
+    int32_t max_combined;      /* energy is held to both, a link's as well: left 0, every quantity draws 16 */
     int32_t max_reserve[3];    /* primary, secondary, contingency */
     int32_t max_regulation;
     int32_t max_ramp_up;       /* tenths of a MW per minute */
     int32_t max_ramp_down;
     int32_t max_proportion[3]; /* thousandths; primary, secondary, contingency */
-    int32_t registered[BILZHAAN_SERVICES_ALL]; /* 1 if registered for the service */
+    int32_t registered[BILZHAAN_SERVICES_ALL]; /* 1 if registered: a load for reserve alone, a link for energy */
 };
 
 /* ---- their bytes; names that end in _ are this header's own. A value that its bytes don't hold isn't cut: the record
@@ -131,7 +131,7 @@ static inline void bilzhaan_write_variation(uint8_t record[BILZHAAN_RECORD_BYTES
     bilzhaan_offer_(record, BILZHAAN_CALL_VARIATION, offer);
 }
 
-/* The window is the `periods` periods after the one that holds `minute`. */
+/* The window is the `periods` periods after the one that holds `minute`. A link has no outages. */
 static inline void bilzhaan_write_outage(uint8_t record[BILZHAAN_RECORD_BYTES], int32_t facility, int32_t minute,
                                          int32_t periods)
 {
@@ -211,14 +211,15 @@ static inline const char *bilzhaan_number_text(uint32_t number)
     case BILZHAAN_CLOCK_REFUSED:
         return "The minute is below the clock or above 1,000,000,000.";
     case BILZHAAN_NOTICE_REFUSED:
-        return "Outage: not 0 <= minute <= clock, or n outside 1 to 3 (load 1 to 48). Notice: kind not 3 to 5, or "
-               "not 0 <= first <= last <= 40,000,000. Withdrawal: kind not 5.";
+        return "Outage: not 0 <= minute <= clock, or n outside 1 to 3 (load 1 to 48), or any of a link. Notice: kind "
+               "not 3 to 5, or not 0 <= first <= last <= 40,000,000. Withdrawal: kind not 5.";
     case BILZHAAN_CAPABILITY_REFUSED:
-        return "Capability: kind not 1 or 2, or not the kind held; a maximum outside 0 to 9,999.9 MW; a ramp maximum "
-               "outside 0 to 999.9 MW/min; a proportion maximum outside 0 to 1.000; a mark not 0 or 1; a load marked "
-               "for energy or regulation.";
+        return "Capability: kind not 1, 2 or 3, or not the kind held; a maximum outside 0 to 9,999.9 MW; a ramp "
+               "maximum outside 0 to 999.9 MW/min; a proportion maximum outside 0 to 1.000; a mark not 0 or 1; a load "
+               "marked for energy or regulation; a link marked for anything but energy.";
     case BILZHAAN_NOT_REGISTERED:
-        return "The facility's mark for the service is not 1: it isn't registered for it.";
+        return "The facility isn't registered for the service: its mark is not 1; or it is a link, and the service is "
+               "not energy.";
     case BILZHAAN_PERIOD_REFUSED:
         return "Standing offer: slot outside 0 to 335. Variation, look-up, total: the period has begun (30*P <= "
                "clock), or P >= 48*(d + 7), d being the clock's day.";

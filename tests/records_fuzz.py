@@ -35,7 +35,7 @@ VALUES = {
     '--period': ('1', '4', '340', '7/02:00', '33333647', '0'), '--slot': ('0', '4', '335', 'Mon/02:00', 'sun/23:30', '336'),
     '--minute': ('0', '5', '1440', '1/00:00', '1000000000', '-1'), '--periods': ('1', '3', '48', '49'),
     '--first': ('0', '4', '1/00:00'), '--last': ('4', '40000000'),
-    '--kind': ('generation', 'load', '1', '2', '3', 'surplus', 'shortfall', 'status', '5'),
+    '--kind': ('generation', 'load', 'link', '1', '2', '3', '4', 'surplus', 'shortfall', 'status', '5'),
     '--registered': ('energy', 'primary,secondary', '0,1,2,3,4', '3'),
     '--max-generation': ('1300', '130.0MW', '100000'), '--max-combined': ('800', '80MW'), '--max-ramp-up': ('15', '1.5MW/min', '1000.0MW'),
     '--max-primary-proportion': ('500', '62.5%', '1001'), '--reason': ('0', '6', 'shortfall', 'none', '7'), '--proportion': ('1', '1000', '62.5%', '65536'),

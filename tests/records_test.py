@@ -29,7 +29,7 @@ from records_answers import Book, explain_answer, read_answer  # noqa: E402
 from records_arguments import COMMANDS, TOP  # noqa: E402
 from records_brief import brief_lines, brief_rows  # noqa: E402
 from records_explain import CAPABILITY, REASON_TEXTS, command_for, explain_record  # noqa: E402
-from records_layout import any_book_refuses, build, read, record_test  # noqa: E402
+from records_layout import KIND_NAMES, KINDS, any_book_refuses, build, read, record_test  # noqa: E402
 from records_refusals import REFUSALS, draws  # noqa: E402
 
 # Document 01, "Cases": "Output whole".
@@ -95,6 +95,14 @@ class BytesByHand(Tool):
             00000002 00000000 00000000 00000000 00000000 00000078 00000000 00000000 00000000 00000000
             00000000 00000000 00000000 00000000 00000000 00000001 00000000 00000000 00000000 00000000''')
         self.assertEqual(self.made('capability --facility 1 --kind load --max-contingency 12.0MW --registered 3'), want)
+
+    def test_capability_of_a_link(self):
+        want = from_hex('''534f42 0001 02 02 00 00000000 00 00 0000 00000000 00000000 00000000 00000000
+            00000003 000003e8 000003e8 00000000 00000000 00000000 00000000 0000000a 0000000b 00000000
+            00000000 00000000 00000001 00000000 00000000 00000000 00000000 00000000 00000000 00000000''')
+        for kind in ('link', '3'):
+            self.assertEqual(self.made(f'capability --facility 2 --kind {kind} --max-generation 100.0MW --max-combined 1000 --max-ramp-up 10'
+                                       ' --max-ramp-down 1.1MW/min --registered energy'), want)
 
     def test_standing_offer_for_energy(self):
         want = from_hex('''534f42 0001 03 02 00 0000014f 00 00 0000 0000000f 00000014 00000000 00000000
@@ -230,9 +238,12 @@ class BadArguments(Tool):
         ('capability --facility 256 --kind load', 'facility 256 is outside 0 to 255'),
         ('capability --facility 64 --kind load', 'refuses this with 3'),
         ('capability --facility -1 --kind load', 'facility -1 is outside 0 to 255'),
-        ('capability --facility 0 --kind pump', "'pump' is no kind: generation, load"),
-        ('capability --facility 0 --kind 3', 'refuses this with 8'),
-        ('capability --facility 0 --kind load --registered energy', 'refuses this with 8'),
+        ('capability --facility 0 --kind pump', "'pump' is no kind: generation, load, link, or a number"),
+        ('capability --facility 0 --kind 4', 'refuses this with 8 or a lower number: the kind is not 1 (generation), 2 (load) or 3 (link)'),
+        ('capability --facility 0 --kind 0', 'refuses this with 8'),
+        ('capability --facility 0 --kind load --registered energy', 'refuses this with 8 or a lower number: a load may not be registered for energy'),
+        ('capability --facility 0 --kind link --registered primary', 'refuses this with 8 or a lower number: a link may not be registered for primary'),
+        ('capability --facility 0 --kind link --registered 0,3,4', 'a link may not be registered for contingency, regulation'),
         ('capability --facility 0 --kind load --registered primary,1', 'names a service twice'),
         ('capability --facility 0 --kind load --registered primary,,', "is no service"),
         ('capability --facility 0 --kind 1 --max-generation 100000', 'refuses this with 8'),
@@ -301,7 +312,7 @@ class BadArguments(Tool):
         ('variation --facility 0 --service energy --period 4 --reason 7 --take-back', 'refuses this with 11'),
         (OFFER + '--take-back', 'required'),
         ('outage --facility 0 --minute 5 --periods 0', 'refuses this with 7'),
-        ('outage --facility 0 --minute 5 --periods 49', 'refuses this with 7'),
+        ('outage --facility 0 --minute 5 --periods 49', 'refuses this with 7 or a lower number: 49 periods: generation 1 to 3, load 1 to 48, link none'),
         ('outage --facility 0 --minute -5 --periods 1', 'refuses this with 7'),
         ('notice --kind 2 --first 1 --last 2', 'refuses this with 7'),
         ('notice --kind status --first 3 --last 2', 'refuses this with 7'),
@@ -343,12 +354,13 @@ class BadArguments(Tool):
                 self.assertIn(message, self.refused(line.split()))
 
     def test_each_bound_of_a_capability(self):
-        """Refusal 8: 'W1-W6 outside 0-99,999; W7, W8 outside 0-9,999; W9-W11 outside 0-1,000; a mark not 0 or 1; load with mark 0 or 4 set'."""
+        """Refusal 8: 'W1-W6 outside 0-99,999; W7, W8 outside 0-9,999; W9-W11 outside 0-1,000; a mark not 0 or 1; load with mark 0 or 4 set'; a link
+        'may have mark 0 only'."""
         tops = {1: 99999, 2: 99999, 3: 99999, 4: 99999, 5: 99999, 6: 99999, 7: 9999, 8: 9999, 9: 1000, 10: 1000, 11: 1000,
                 12: 1, 13: 1, 14: 1, 15: 1, 16: 1}
-        for kind in (1, 2):
+        for kind, closed in ((1, ()), (2, (12, 16)), (3, (13, 14, 15, 16))):
             for place, top in tops.items():
-                for value, fits in ((0, True), (top, kind == 1 or place not in (12, 16)), (top + 1, False), (-1, False)):
+                for value, fits in ((0, True), (top, place not in closed), (top + 1, False), (-1, False)):
                     words = [kind] + [0] * 16
                     words[place] = value
                     self.assertEqual(any_book_refuses(build(2, words=words))[0], 0 if fits else 8, words)
@@ -682,6 +694,28 @@ class Shown(Tool):
         for pairs in ('1@0', '0@0,0@0,1@5', '0@5 --anyway'):
             self.assertNotIn('means', self.rows(f'variation --facility 0 --service energy --period 4 --pairs {pairs}'))
 
+    def test_kinds_that_a_record_may_be_of(self):
+        """An offer, a reason and an outage name the kinds that they are open to; a capability says its own."""
+        offers = ('generation or link', 'generation or load', 'generation or load', 'generation or load', 'generation')
+        for service, kinds in enumerate(offers):
+            for line in ('standing --slot 4', 'variation --period 4'):
+                text = self.rows(f'{line} --facility 0 --service {service} --pairs 1@1')['service']
+                self.assertTrue(text.endswith(f' (offered by {kinds})'), text)
+            self.assertNotIn('(', self.rows(f'look-up --facility 0 --service {service} --period 4')['service'])
+        names = ('no reason', 'synchronising profile', 'forced outage', 'energy surplus notice', 'shortfall notice', 'system status notice', 'outage of a load')
+        no_kind = 'no kind for this service'
+        energy = (None, 'generation', 'generation', 'generation or link', 'generation or link', 'generation or link', no_kind)
+        reserve = (None, 'generation', 'generation', no_kind, 'generation or load', 'generation or load', 'load')
+        regulation = (None, 'generation', 'generation', no_kind, 'generation', 'generation', no_kind)
+        for service, kinds in enumerate((energy, reserve, reserve, reserve, regulation)):
+            for reason, (name, to) in enumerate(zip(names, kinds)):
+                text = self.rows(f'variation --facility 0 --service {service} --period 4 --reason {reason} --pairs 1@1')['reason']
+                self.assertEqual(text, f'{reason} {name} (open to {to})' if to else f'{reason} {name}')
+        for count, text in ((1, '1 (for generation or load)'), (3, '3 (for generation or load)'), (4, '4 (for load)'), (48, '48 (for load)'), (49, '49'), (0, '0')):
+            self.assertEqual(self.rows(f'outage --facility 0 --minute 5 --periods {count} --anyway')['periods'], text)
+        rows = self.rows('capability --facility 0 --kind link --registered energy,regulation --anyway')
+        self.assertEqual((rows['kind'], rows['any book']), ('3 link', 'refuses it with 8 or a lower number: a link may not be registered for regulation'))
+
     def test_what_any_book_refuses_is_said(self):
         rows = self.rows('standing --facility 0 --service energy --slot 4 --pairs 1@5000,1@4000 --anyway')
         self.assertEqual(rows['any book'], 'refuses it with 13 or a lower number: prices of non-blank pairs do not strictly rise')
@@ -890,9 +924,10 @@ class RoundTrip(Tool):
         labels = ['generation maximum', 'combined maximum', 'primary reserve maximum', 'secondary reserve maximum', 'contingency reserve maximum',
                   'regulation maximum']
         for _ in range(100):
-            facility, kind = self.random.randint(0, 63), self.random.choice(('generation', 'load'))
-            words = ['capability', '--facility', str(facility), '--kind', kind]
-            want = {'facility': str(facility), 'kind': f"{1 if kind == 'generation' else 2} {kind}"}
+            facility, number = self.random.randint(0, 63), self.random.randint(1, 3)
+            kind = ('generation', 'load', 'link')[number - 1]
+            words = ['capability', '--facility', str(facility), '--kind', self.random.choice((kind, str(number)))]
+            want = {'facility': str(facility), 'kind': f'{number} {kind}'}
             for option, label in zip(maxima, labels):
                 value = self.random.randint(0, 99999)
                 words += [f'--{option}', self.amount(value, 1, 'MW')]
@@ -905,7 +940,8 @@ class RoundTrip(Tool):
                 value = self.random.randint(0, 1000)
                 words += [f'--max-{name}-proportion', self.amount(value, 1, '%')]
                 want[f'{name} proportion maximum'] = f'{Decimal(value).scaleb(-3):.3f}'
-            able = ('energy', 'primary', 'secondary', 'contingency', 'regulation') if kind == 'generation' else ('primary', 'secondary', 'contingency')
+            able = {'generation': ('energy', 'primary', 'secondary', 'contingency', 'regulation'), 'load': ('primary', 'secondary', 'contingency'),
+                    'link': ('energy',)}[kind]
             marks = [name for name in able if self.random.random() < 0.5]
             words += ['--registered', ','.join(marks)] if marks else []
             want['registered for'] = ', '.join(marks) or 'nothing'
@@ -1142,6 +1178,16 @@ class Brief(Tool):
             '  3  withdrawal                                              accepted           system status notice',
             '  4  total                 regulation       5  0 Mon  02:30  2 facilities  3.0'])
 
+    def test_a_link(self):
+        line = ('capability --facility 1 --kind link --max-generation 100MW --max-combined 100MW --registered energy'
+                ' then outage --facility 1 --minute 100 --periods 3 then standing --facility 1 --service primary --slot 4 --pairs 1@1')
+        self.assertEqual(self.table(line, ['0 0 0', '7 0 0', '9 0 0']), [
+            'facility 1',
+            'no.  call            service          period    day  time   answer',
+            '  1  capability                                             accepted   link, 100.0 MW, combined 100.0 MW, registered for energy',
+            '  2  outage                                   0 Mon  01:40  refused 7  notice refused: outage out of range, or of a link',
+            "  3  standing offer  primary reserve  slot 4    Mon  02:00  refused 9  not registered: the facility isn't registered for the service"])
+
     def test_without_answers(self):
         self.assertEqual(self.table('variation --facility 0 --service primary --period 5 --proportion 5 --mw 1@2,0@0,3@4', None), [
             'variation, facility 0, primary reserve', 'no.  period    day  time    MW  pairs, MW @ $/MWh', '  1       5  0 Mon  02:30  4.0  1.0 @ 2.00  3.0 @ 4.00'])
@@ -1243,9 +1289,12 @@ class Vectors(Tool):
     def test_variations_taken_back(self):
         self.assertLessEqual({0, 14, 15, 17, 19}, self.check(self.lists('k1_calls')))
 
+    def test_links(self):
+        self.assertLessEqual({0, 5, 7, 8, 9, 14, 16, 17, 19}, self.check(self.lists('k2_calls')))
+
     def test_pairs_of_short_answers(self):
         """Told the first word and the sum alone, the pairs of the filings are those of the whole answer."""
-        for name, least in (('one_service', 100), ('five_services', 100), ('k1_calls', 100)):
+        for name, least in (('one_service', 100), ('five_services', 100), ('k1_calls', 100), ('k2_calls', 100)):
             seen = 0
             for _, items in itertools.groupby(self.numbered(name), lambda item: item[0]):
                 pieces, answers = zip(*((item[1], read_answer(item[4])) for item in items))
@@ -1260,6 +1309,7 @@ class Vectors(Tool):
         self.check(self.program('program_31'))
         self.check(self.program('program_34'))
         self.check(self.program('k1_program'))
+        self.check(self.program('k2_program'))
 
 
 class Header(unittest.TestCase):
@@ -1310,7 +1360,7 @@ class Header(unittest.TestCase):
         services = self.after('ENERGY', 5)
         self.assertEqual(self.these(*services), [0, 1, 2, 3, 4])
         self.assertEqual([name.lower().replace('_', ' ') for name in services], list(records_layout.SERVICE_TEXTS))
-        self.assertEqual(records_layout.KINDS, {self.numbers[name]: name.lower() for name in ('GENERATION', 'LOAD')})
+        self.assertEqual(records_layout.KIND_NAMES, {self.numbers[name]: name.lower() for name in self.after('GENERATION', 3)})
         reasons = self.after('REASON_NONE', 7)
         self.assertEqual(self.these(*reasons), list(range(7)))
         for name, word in zip(reasons, records_layout.REASONS):
@@ -1354,12 +1404,18 @@ class RefusalsPage(unittest.TestCase):
     def setUp(self):
         self.rows = [[cell.strip() for cell in line.strip('|').split('|')] for line in contents(ROOT, 'docs', 'REFUSALS.md').decode().splitlines()
                      if line.startswith('| ')]
+        self.reasons, self.kinds = self.table('Reason'), self.table('Kind')
+
+    def table(self, head):
+        """The rows of the table whose first column has this head."""
+        start = next(place for place, row in enumerate(self.rows) if row[0] == head)
+        return list(itertools.takewhile(lambda row: row[0][0].isdigit(), self.rows[start + 1:]))
 
     def test_a_row_for_each(self):
         numbers = [int(row[0]) for row in self.rows if len(row) == 5 and row[0].isdigit()]
         self.assertEqual(numbers, list(range(1, 21)))
-        reasons = [int(row[0].split()[0]) for row in self.rows if len(row) == 4 and row[0][0].isdigit()]
-        self.assertEqual(reasons, list(range(1, 7)))
+        self.assertEqual([int(row[0].split()[0]) for row in self.reasons], list(range(1, 7)))
+        self.assertEqual([row[0] for row in self.kinds], [f'{number} {name}' for number, name in KIND_NAMES.items()])
 
     def test_who_draws_which(self):
         for row in self.rows:
@@ -1378,8 +1434,18 @@ class RefusalsPage(unittest.TestCase):
                 self.assertEqual((refusal.means, refusal.correct), (means, ascii_of(row[3])))
 
     def test_reasons(self):
-        texts = [row[0].split(maxsplit=1)[1] for row in self.rows if len(row) == 4 and row[0][0].isdigit()]
+        texts = [row[0].split(maxsplit=1)[1] for row in self.reasons]
         self.assertEqual([text.replace(' notice', '') for text in REASON_TEXTS[1:]], texts)
+
+    def test_kinds_are_the_tools(self):
+        """What each kind may do, in its own table and in the columns of the reasons'."""
+        marks = {(0, 1, 2, 3, 4): 'any', (1, 2, 3): 'primary, secondary, contingency', (0,): 'energy'}
+        for column, (row, kind) in enumerate(zip(self.kinds, KINDS.values()), 1):
+            self.assertEqual(row[2:5], [marks[kind.marks], ', '.join(map(str, kind.reasons)), f'1 to {kind.outage}' if kind.outage else 'none'])
+            self.assertEqual(row[5] == 'tested', kind.proportion)
+            open_to = [number for number, reason in enumerate(self.reasons, 1) if reason[column] == 'open']
+            self.assertEqual((open_to, {reason[column] for reason in self.reasons}), (list(kind.reasons), {'open', 'shut'}))
+        self.assertEqual(next(row for row in self.rows if row[0] == 'Reason')[1:4], [name.capitalize() for name in KIND_NAMES.values()])
 
     def test_gate_closure(self):
         days = ('Mon', 'Tue', 'Wed', 'Thu', 'Fri', 'Sat', 'Sun')

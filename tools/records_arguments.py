@@ -6,7 +6,7 @@ from functools import lru_cache
 
 from records_amounts import BadArgument, minute, mw_pairs, pairs, period, proportion, quantity, ramp, slot, whole, within, word
 from records_explain import CAPABILITY
-from records_layout import CALLS, KINDS, NOTICES, REASONS, SERVICES
+from records_layout import CALLS, KINDS, KIND_NAMES, NOTICES, OUTAGES, REASONS, SERVICES, alternatives, kinds_with
 
 TOP = '''\
 usage: records.py COMMAND ..
@@ -140,7 +140,8 @@ def add_output_options(parser):
 
 
 def add_offer_options(parser, is_variation):
-    parser.add_argument('--proportion', type=proportion, action=Once, metavar='N', help='reserve proportion, thousandths or with %%; generation must give one')
+    parser.add_argument('--proportion', type=proportion, action=Once, metavar='N', help='reserve proportion, thousandths or with %%; '
+                        + alternatives(kinds_with(lambda kind: kind.proportion)) + ' must give one')
     parser.add_argument('--ramp-up', type=ramp, action=Once, metavar='N', help='energy ramp-up rate, tenths of a MW per minute or with MW/min; 0 if left out')
     parser.add_argument('--ramp-down', type=ramp, action=Once, metavar='N', help='energy ramp-down rate, likewise')
     either = parser.add_mutually_exclusive_group(required=True)
@@ -158,7 +159,7 @@ OPTIONS = {
     '--period': dict(type=period, metavar='P', help='period P, or DAY/HH:MM of its start'),
     '--slot': dict(type=slot, metavar='SLOT', help='slot 0 to 335, or weekday and time: Mon/02:00'),
     '--minute': dict(type=minute, metavar='M', help='minute from the start of day 0, or DAY/HH:MM'),
-    '--periods': dict(type=word, metavar='N', help='count of periods after the one that holds the minute: 1 to 3, load 1 to 48'),
+    '--periods': dict(type=word, metavar='N', help=f'count of periods after the one that holds the minute: {OUTAGES}'),
     '--first': dict(type=period, metavar='P', help='first period of the notice'),
     '--last': dict(type=period, metavar='P', help='last period of the notice'),
 }
@@ -181,10 +182,13 @@ def add_call_options(name, parser):
     for option in COMMANDS[name][1]:
         parser.add_argument(option, action=Once, required=True, **OPTIONS[option])
     if name == 'capability':
-        parser.add_argument('--kind', type=named(KINDS, 'kind'), action=Once, required=True, metavar='KIND', help='generation or load')
+        parser.add_argument('--kind', type=named(KIND_NAMES, 'kind'), action=Once, required=True, metavar='KIND',
+                            help=', '.join(KIND_NAMES.values()) + f', or 1 to {len(KIND_NAMES)}')
         for option, label, _ in CAPABILITY:
             parser.add_argument(f'--{option}', type=amount_of(option), action=Once, metavar='N', help=f'{label}; 0 if left out')
-        parser.add_argument('--registered', type=services, action=Once, metavar='SERVICE,..', help='services it is registered for')
+        parser.add_argument('--registered', type=services, action=Once, metavar='SERVICE,..', help='services it is registered for' + ''.join(
+            f"; a {kind.name}'s: {', '.join(SERVICES[s] for s in kind.marks)}" for kind in KINDS.values() if len(kind.marks) < len(SERVICES)))
+        parser.epilog = "A link's import capacity is its generation maximum; the combined one binds its energy as well."
     if name == 'variation':
         parser.add_argument('--reason', type=reason, action=Once, metavar='R', help=', '.join(REASONS) + ', or 0 to 6')
     if name in ('notice', 'withdrawal'):

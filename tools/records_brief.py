@@ -4,7 +4,7 @@ from collections import namedtuple
 
 from records_amounts import WEEKDAYS, show_mw, show_parts, show_time
 from records_explain import CALL_TEXTS, REASON_TEXTS, TAKES_BACK, outage_window, used_offer
-from records_layout import CALLS, KINDS, LENGTH, NOTICES, SERVICES, SERVICE_TEXTS, pairs_of, read, record_test, takes_back
+from records_layout import CALLS, KIND_NAMES, LENGTH, NOTICES, SERVICES, SERVICE_TEXTS, pairs_of, read, record_test, takes_back
 from records_refusals import REFUSALS, refusal_text
 
 # Texts of a line's cells, '' where there is nothing to say; `pairs` are (price, quantity), `text` what stands in their place.
@@ -33,7 +33,7 @@ def when(r):
 
 def capability_text(w):
     marks = [SERVICES[s] for s, mark in enumerate(w[12:17]) if mark]
-    return f"{KINDS.get(w[0], f'kind {w[0]}')}, {show_mw(w[1])}, combined {show_mw(w[2])}, registered for {', '.join(marks) or 'nothing'}"
+    return f"{KIND_NAMES.get(w[0], f'kind {w[0]}')}, {show_mw(w[1])}, combined {show_mw(w[2])}, registered for {', '.join(marks) or 'nothing'}"
 
 
 def said(r):

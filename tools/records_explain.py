@@ -2,8 +2,8 @@
 from itertools import groupby
 
 from records_amounts import show_minute, show_mw, show_period, show_price, show_proportion, show_ramp, show_slot
-from records_layout import (CALLS, KINDS, LENGTH, NOTICES, REASONS, SERVICES, SERVICE_TEXTS, any_book_refuses, field_at, form_faults, offer_fields,
-                            pairs_of, read, record_test, stray_bytes, takes_back)
+from records_layout import (CALLS, KIND_NAMES, LENGTH, NOTICES, REASONS, SERVICES, SERVICE_TEXTS, alternatives, any_book_refuses, field_at, form_faults,
+                            kinds_with, offer_fields, pairs_of, read, record_test, stray_bytes, takes_back)
 
 CALL_TEXTS = {1: 'clock', 2: 'capability', 3: 'standing offer', 4: 'variation', 5: 'outage', 6: 'notice', 7: 'withdrawal', 8: 'look-up', 9: 'total'}
 TAKES_BACK = 'takes the variation back: the standing offer stands again, if there is one'
@@ -58,15 +58,31 @@ def open_row(period):
 
 def capability_rows(words):
     marks = [f'{SERVICES[s]}{"" if mark == 1 else f" (mark {mark})"}' for s, mark in enumerate(words[12:17]) if mark]
-    rows = [('kind', f'{words[0]} {KINDS.get(words[0], "(no such)")}')]
+    rows = [('kind', f'{words[0]} {KIND_NAMES.get(words[0], "(no such)")}')]
     rows += [(label, show(value)) for (_, label, show), value in zip(CAPABILITY, words[1:12])]
     return rows + [('registered for', ', '.join(marks) or 'nothing')]
 
 
 def outage_window(minute, count):
-    if not (0 <= minute and 1 <= count <= 48):
+    if minute < 0 or not kinds_with(lambda kind: 1 <= count <= kind.outage):
         return 'none'
     return f'periods {minute // 30 + 1} to {minute // 30 + count}'
+
+
+def of_kinds(text, what, holds):
+    """A record doesn't say its facility's kind: the kinds that it may be of are named beside what tells them apart."""
+    names = kinds_with(holds)
+    return f'{text} ({what} {alternatives(names)})' if names else text
+
+
+def reason_text(r):
+    """Inside the gate: reason 3 is for energy alone, and a kind files only for the services that it may be registered for."""
+    def opens(kind):
+        return r.reason in kind.reasons and r.service in kind.marks and (r.reason != 3 or r.service == 0)
+    text = with_name(r.reason, REASON_TEXTS)
+    if 1 <= r.reason <= 6 and r.service < 5 and not kinds_with(opens):
+        return f'{text} (open to no kind for this service)'
+    return of_kinds(text, 'open to', opens)
 
 
 def field_rows(r):
@@ -74,14 +90,16 @@ def field_rows(r):
     rows = []
     if r.call in (2, 3, 4, 5, 8):
         rows.append(('facility', str(r.facility)))
-    if r.call in (3, 4, 8, 9):
+    if r.call in (8, 9):
         rows.append(('service', with_name(r.service, SERVICE_TEXTS)))
+    if r.call in (3, 4):
+        rows.append(('service', of_kinds(with_name(r.service, SERVICE_TEXTS), 'offered by', lambda kind: r.service in kind.marks)))
     if r.call == 3:
         rows.append(('slot', show_slot(r.period)))
     if r.call in (4, 8, 9):
         rows.append(('period', show_period(r.period)))
     if r.call == 4:
-        rows += [('reason', with_name(r.reason, REASON_TEXTS)), open_row(r.period)]
+        rows += [('reason', reason_text(r)), open_row(r.period)]
     if r.call in (3, 4) and r.service < 5:
         rows += offer_rows(r.service, *used_offer(r))
     if takes_back(r):
@@ -91,7 +109,8 @@ def field_rows(r):
     if r.call == 2:
         rows += capability_rows(r.words)
     if r.call == 5:
-        rows += [('minute', show_minute(r.a)), ('periods', str(r.b)), ('window', outage_window(r.a, r.b))]
+        rows += [('minute', show_minute(r.a)), ('periods', of_kinds(str(r.b), 'for', lambda kind: 1 <= r.b <= kind.outage)),
+                 ('window', outage_window(r.a, r.b))]
     if r.call in (6, 7):
         rows.append(('notice', f'{r.reason} {REASON_TEXTS[r.reason] if r.reason in NOTICES else "(no such)"}'))
     if r.call == 6:
@@ -158,7 +177,7 @@ def offer_words(r):
 
 
 def capability_words(w):
-    words = ['--kind', KINDS.get(w[0], str(w[0]))]
+    words = ['--kind', KIND_NAMES.get(w[0], str(w[0]))]
     for (option, _, _), value in zip(CAPABILITY, w[1:12]):
         words += [f'--{option}', str(value)] if value else []
     marks = [SERVICES[s] for s in range(5) if w[12 + s]]

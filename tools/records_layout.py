@@ -14,7 +14,6 @@ MOST_FACILITIES, MOST_SERVICES = 64, 5
 CALLS = {1: 'clock', 2: 'capability', 3: 'standing', 4: 'variation', 5: 'outage', 6: 'notice', 7: 'withdrawal', 8: 'look-up', 9: 'total'}
 SERVICES = ('energy', 'primary', 'secondary', 'contingency', 'regulation')
 SERVICE_TEXTS = ('energy', 'primary reserve', 'secondary reserve', 'contingency reserve', 'regulation')
-KINDS = {1: 'generation', 2: 'load'}
 REASONS = ('none', 'synchronisation', 'outage', 'surplus', 'shortfall', 'status', 'load-outage')
 NOTICES = {3: 'surplus', 4: 'shortfall', 5: 'status'}
 
@@ -39,6 +38,30 @@ def read(data):
 
 def pairs_of(words):
     return list(zip(words[0::2], words[1::2]))
+
+
+# ---- facility kinds
+
+# What each may do: services it may be registered for, reasons open to it inside the gate, its longest outage in periods (0: none), and
+# whether its reserve proportion is tested.
+Kind = namedtuple('Kind', 'name marks reasons outage proportion')
+KINDS = {
+    1: Kind('generation', (0, 1, 2, 3, 4), (1, 2, 3, 4, 5), 3, True),
+    2: Kind('load', (1, 2, 3), (3, 4, 5, 6), 48, False),
+    3: Kind('link', (0,), (3, 4, 5), 0, False),
+}
+KIND_NAMES = {number: kind.name for number, kind in KINDS.items()}
+OUTAGES = ', '.join(f'{kind.name} 1 to {kind.outage}' if kind.outage else f'{kind.name} none' for kind in KINDS.values())
+
+
+def kinds_with(holds):
+    """The names of those of which it holds."""
+    return [kind.name for kind in KINDS.values() if holds(kind)]
+
+
+def alternatives(words):
+    *most, last = words
+    return f"{', '.join(most)} or {last}" if most else last
 
 
 # ---- "The nine calls and what they use"
@@ -155,14 +178,15 @@ def outside(values, lowest, highest):
 
 def capability_fault(r):
     w = r.words
-    load_marks = w[0] == 2 and (w[12] == 1 or w[16] == 1)
+    kind = KINDS.get(w[0], KINDS[1])
+    closed = [SERVICES[s] for s in range(5) if w[12 + s] and s not in kind.marks]
     return first_fault([
-        (w[0] not in KINDS, 8, 'the kind is not 1 (generation) or 2 (load)'),
+        (w[0] not in KINDS, 8, f"the kind is not {alternatives(f'{number} ({name})' for number, name in KIND_NAMES.items())}"),
         (outside(w[1:7], 0, 99_999), 8, 'a maximum is outside 0.0 to 9999.9 MW'),
         (outside(w[7:9], 0, 9_999), 8, 'a ramp maximum is outside 0.0 to 999.9 MW/min'),
         (outside(w[9:12], 0, 1_000), 8, 'a proportion maximum is outside 0.000 to 1.000'),
         (outside(w[12:17], 0, 1), 8, 'a mark is not 0 or 1'),
-        (load_marks, 8, 'a load is not registered for energy or regulation')])
+        (closed, 8, f"a {kind.name} may not be registered for {', '.join(closed)}")])
 
 
 def period_tests(r):
@@ -201,7 +225,7 @@ def any_book_refuses(data):
         return first_fault(period_tests(r) + offer_tests(r))
     if r.call == 5:
         return first_fault([(outside([r.a], 0, LAST_CLOCK), 7, f'minute {r.a} is outside 0 to the clock'),
-                            (outside([r.b], 1, 48), 7, f'{r.b} periods: 1 to 3, for a load 1 to 48')])
+                            (not kinds_with(lambda kind: 1 <= r.b <= kind.outage), 7, f'{r.b} periods: {OUTAGES}')])
     if r.call == 6:
         return first_fault([(r.reason not in NOTICES, 7, f'notice {r.reason} is not 3, 4 or 5'),
                             (not 0 <= r.a <= r.b <= LAST_NOTICE_PERIOD, 7, f'not 0 <= first {r.a} <= last {r.b} <= {LAST_NOTICE_PERIOD}')])

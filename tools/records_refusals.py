@@ -24,16 +24,16 @@ REFUSALS = {
                'The facility number; or have its capability filed first.'),
     6: Refusal('clock refused', 'minute below the clock or above 1,000,000,000', 'the clock',
                'The minute is below the clock or above 1,000,000,000.', 'The minute. The same minute again is accepted.'),
-    7: Refusal('notice refused', 'outage, notice or withdrawal out of range', OPERATOR,
-               'Outage: not 0 <= minute <= clock, or n outside 1 to 3 (load 1 to 48). Notice: kind not 3 to 5, or not 0 <= first <= last <= 40,000,000.'
-               ' Withdrawal: kind not 5.', 'That value.'),
+    7: Refusal('notice refused', 'outage, notice or withdrawal out of range; any outage of a link', OPERATOR,
+               'Outage: not 0 <= minute <= clock, or n outside 1 to 3 (load 1 to 48), or any of a link. Notice: kind not 3 to 5, or not 0 <= first <= last'
+               ' <= 40,000,000. Withdrawal: kind not 5.', 'That value. A link has no outages here.'),
     8: Refusal('capability refused', 'kind, maxima or marks out of range, or another kind than the held one', OPERATOR,
-               'Capability: kind not 1 or 2, or not the kind held; a maximum outside 0 to 9,999.9 MW; a ramp maximum outside 0 to 999.9 MW/min;'
-               ' a proportion maximum outside 0 to 1.000; a mark not 0 or 1; a load marked for energy or regulation.',
+               'Capability: kind not 1, 2 or 3, or not the kind held; a maximum outside 0 to 9,999.9 MW; a ramp maximum outside 0 to 999.9 MW/min;'
+               ' a proportion maximum outside 0 to 1.000; a mark not 0 or 1; a load marked for energy or regulation; a link marked for anything but energy.',
                'That value. A kind, once held, never changes.'),
     9: Refusal('not registered', "the facility isn't registered for the service", COORDINATOR,
-               "The facility's mark for the service is not 1: it isn't registered for it.",
-               'The service; or have the capability filed with the mark.'),
+               "The facility isn't registered for the service: its mark is not 1; or it is a link, and the service is not energy.",
+               'The service; or, where its kind may have the mark, have the capability filed with it.'),
     10: Refusal('period refused', 'no such slot; period begun or past the horizon (look-up and total too)', 'the coordinator or reader',
                 'Standing offer: slot outside 0 to 335. Variation, look-up, total: the period has begun (30 P <= clock), or P >= 48 (d + 7),'
                 " d being the clock's day.", 'The slot or period.'),
@@ -48,7 +48,8 @@ REFUSALS = {
                 "Generation, reserve: the proportion is 0 or above the class's maximum. A load's isn't tested.",
                 'The proportion, 0.001 up to the maximum.'),
     16: Refusal('above capacity', '', COORDINATOR,
-                "The total is above the generation or the combined maximum (energy), or above the service's own.", 'The quantities.'),
+                "The total is above the generation or the combined maximum (energy), or above the service's own.",
+                'The quantities. A link needs both maxima filed.'),
     17: Refusal('gate closed', '', COORDINATOR,
                 'Gate closure, less than 65 minutes left: a variation whose reason does not hold or that changes a price already offered,'
                 ' or a standing offer over a held one.',
@@ -64,7 +65,7 @@ REFUSALS = {
 
 # What a number that several calls draw says of one of them.
 NOTES_BY_CALL = {
-    (7, 5): 'outage out of range', (7, 6): 'notice out of range', (7, 7): 'only system status can be withdrawn',
+    (7, 5): 'outage out of range, or of a link', (7, 6): 'notice out of range', (7, 7): 'only system status can be withdrawn',
     (10, 3): 'no such slot', (10, 4): 'begun or past the horizon', (10, 8): 'begun or past the horizon', (10, 9): 'begun or past the horizon',
 }
 

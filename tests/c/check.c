@@ -89,6 +89,7 @@ const int32_t usual_limits[6] = {ENERGY_LOWEST, ENERGY_HIGHEST, SERVICE_HIGHEST,
                                  SERVICE_HIGHEST + 1, SERVICE_HIGHEST + 2, SERVICE_HIGHEST + 3};
 const int32_t usual_generation[17] = {1, 1300, 800, 300, 310, 320, 200, 50, 40, 500, 600, 700, 1, 1, 1, 1, 1};
 const int32_t usual_load[17] = {2, 0, 0, 300, 310, 320, 0, 0, 0, 0, 0, 0, 0, 1, 1, 1, 0};
+const int32_t usual_link[17] = {3, 900, 800, 300, 310, 320, 200, 50, 40, 500, 600, 700, 1, 0, 0, 0, 0};
 
 struct book book_for(int32_t facilities, int32_t services)
 {

@@ -36,6 +36,7 @@ enum { ENERGY_LOWEST = -450000, ENERGY_HIGHEST = 450000, SERVICE_HIGHEST = 40000
 extern const int32_t usual_limits[6];
 extern const int32_t usual_generation[BILZHAAN_CAPABILITY_WORDS];
 extern const int32_t usual_load[BILZHAAN_CAPABILITY_WORDS];
+extern const int32_t usual_link[BILZHAAN_CAPABILITY_WORDS];
 
 struct book book_for(int32_t facilities, int32_t services);
 

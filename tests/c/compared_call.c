@@ -9,6 +9,7 @@
 long passed, failed;
 long drawn[20], accepted[10], inside_gate[7], past_another_period;
 long taken_back[2][2], taken_back_inside[7], not_taken_back, taken_back_damaged;
+long of_links[20], accepted_of_links[10], links_inside_gate[7], links_marked;
 
 /* ---- reports ---- */
 
@@ -177,6 +178,29 @@ static void count_call(const struct list *l, const struct bilzhaan_answer *a, in
     }
 }
 
+/* By the words after the call, so that a link's first capability counts. */
+static void count_link(const struct list *l, const struct bilzhaan_answer *a, int64_t now)
+{
+    const uint8_t *b = l->bytes;
+    int which = b[BILZHAAN_AT_CALL], reason = b[BILZHAAN_AT_REASON];
+    bool has_facility = which == 8 || (which >= 2 && which <= 5);
+    if ((a->number >= 1 && a->number <= 4) || !has_facility)
+        return;
+    const int32_t *block = l->plain + 64 + 32 * (size_t)b[BILZHAAN_AT_FACILITY];
+    if (block[0] != BILZHAAN_LINK)
+        return;
+    if (l->is_damaged) {
+        links_marked += a->number == BILZHAAN_NOT_REGISTERED && block[12 + b[BILZHAAN_AT_SERVICE]] == 1;
+        return;
+    }
+    of_links[a->number]++;
+    if (a->number != 0)
+        return;
+    accepted_of_links[which]++;
+    if (which == BILZHAAN_CALL_VARIATION && 30 * period_of(b) - now < 65)
+        links_inside_gate[reason]++;
+}
+
 void compared_call(struct list *l, struct random *r, const uint8_t *bytes, size_t length)
 {
     memcpy(l->bytes, bytes, length);
@@ -208,6 +232,7 @@ void compared_call(struct list *l, struct random *r, const uint8_t *bytes, size_
     if (l->is_wrong)
         return;
     count_call(l, &a, now);
+    count_link(l, &a, now);
     if (is_take_back)
         count_take_back(l, &a, now);
 }

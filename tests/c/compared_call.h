@@ -18,6 +18,9 @@ extern long past_another_period; /* look-ups where the variation cell held anoth
 /* Variations of blanks alone, where the period had a variation: accepted with the gate open (0) and inside it (1), each without
  * a standing offer and with one to go back to; inside it by reason; refused with 17; accepted inside it on a damaged book. */
 extern long taken_back[2][2], taken_back_inside[7], not_taken_back, taken_back_damaged;
+/* Calls for a link: by number; accepted by byte 5; variations accepted inside gate closure, by reason. On damaged books: offers
+ * refused with 9 though the mark is 1. */
+extern long of_links[20], accepted_of_links[10], links_inside_gate[7], links_marked;
 
 /* One list: two books of the same words, one for the library and one for the plain book. */
 struct list {

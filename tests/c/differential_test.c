@@ -48,10 +48,8 @@ static void prologue(struct list *l, struct random *r, struct scene *scene)
     struct record clock = clock_at((int32_t)minute);
     for (int i = 0; i <= SCENE_FACILITIES; i++) {
         int32_t w[17] = {1, 1300, 800, 300, 300, 300, 200, 50, 40, 500, 600, 700, 1, 1, 1, 1, 1};
-        if (one_in(r, l->services == 1 ? 12 : 3)) {
-            w[0] = 2;
-            w[12] = w[16] = 0;
-        }
+        w[0] = random_kind(r, l->services);
+        clear_marks(w);
         struct record record = i < SCENE_FACILITIES ? capability_of(scene->active[i], w) : clock;
         compared_call(l, r, record.bytes, sizeof record.bytes);
     }
@@ -121,8 +119,12 @@ static void damaged_near_gate(struct list *l, struct random *r, struct scene *sc
     size_t block = 64 + 32 * (size_t)f;
     size_t standing = place_of_cell(scene->facilities, scene->services, f, s, 0, period % 336);
     size_t variation = place_of_cell(scene->facilities, scene->services, f, s, 1, period % 336);
-    set_both(l, block, one_in(r, 6) ? odd_value(r) : (int32_t)between(r, 1, 2));
+    set_both(l, block, one_in(r, 6) ? odd_value(r) : (int32_t)between(r, 1, 3));
     set_both(l, block + 12 + (size_t)s, 1);
+    if (one_in(r, 4)) { /* a link has no outage window by calls */
+        set_both(l, block + 17, (int32_t)period - 1);
+        set_both(l, block + 18, (int32_t)period + 1);
+    }
     int which = (int)between(r, 0, 3);
     if (which != 1)
         damaged_offer(l, r, standing, one_in(r, 8) ? odd_value(r) : 1);
@@ -242,7 +244,15 @@ static void print_counts(void)
     for (int i = 1; i <= 6; i++)
         printf(" %d:%ld", i, taken_back_inside[i]);
     printf("; refused with 17: %ld; on damaged books inside it: %ld", not_taken_back, taken_back_damaged);
-    printf("\nlook-ups past a variation of another period of the slot: %ld\n", past_another_period);
+    printf("\nlook-ups past a variation of another period of the slot: %ld", past_another_period);
+    printf("\nlinks, numbers drawn:");
+    for (int i = 0; i < 20; i++)
+        if (of_links[i] > 0)
+            printf(" %d:%ld", i, of_links[i]);
+    printf("; accepted calls 2:%ld 3:%ld 4:%ld 8:%ld", accepted_of_links[2], accepted_of_links[3], accepted_of_links[4],
+           accepted_of_links[8]);
+    printf("; inside gate closure by reason 3:%ld 4:%ld 5:%ld; 9 by kind on damaged books: %ld\n", links_inside_gate[3],
+           links_inside_gate[4], links_inside_gate[5], links_marked);
     for (int i = 0; i < 20; i++)
         tried("number", i, drawn[i]);
     for (int i = 1; i <= 9; i++)
@@ -256,6 +266,15 @@ static void print_counts(void)
         tried("variation taken back inside gate closure, reason", i, taken_back_inside[i]);
     tried("variation not taken back", 17, not_taken_back);
     tried("variation taken back on a damaged book", 0, taken_back_damaged);
+    static const int numbers_of_links[] = {0, 7, 8, 9, 10, 11, 12, 13, 14, 16, 17, 18, 19};
+    for (size_t i = 0; i < sizeof numbers_of_links / sizeof numbers_of_links[0]; i++)
+        tried("number of a link", numbers_of_links[i], of_links[numbers_of_links[i]]);
+    for (int i = 1; i <= 9; i++)
+        if (i == 2 || i == 3 || i == 4 || i == 8)
+            tried("accepted call of a link", i, accepted_of_links[i]);
+    for (int i = 3; i <= 5; i++)
+        tried("reason of a link inside gate closure", i, links_inside_gate[i]);
+    tried("mark that a link may not have", 9, links_marked);
 }
 
 static double seconds_now(void)

@@ -77,6 +77,21 @@ static void open_usual(int32_t now)
     EQUAL(number_of(clock_at(now)), BILZHAAN_ACCEPTED);
 }
 
+/* The one kind that may have a mark for energy and no outage. */
+static void links(void)
+{
+    int32_t w[20];
+    EQUAL(bilzhaan_open(words, room, 1, 5, usual_limits), BILZHAAN_ACCEPTED);
+    usual_words(w);
+    w[BILZHAAN_W_KIND] = BILZHAAN_LINK;
+    EQUAL(number_of(capability_of(0, w)), BILZHAAN_CAPABILITY_REFUSED); /* "mark 0 only" */
+    for (int service = BILZHAAN_PRIMARY_RESERVE; service <= BILZHAAN_REGULATION; service++)
+        w[BILZHAAN_W_REGISTERED + service] = 0;
+    EQUAL(number_of(capability_of(0, w)), BILZHAAN_ACCEPTED);
+    EQUAL(number_of(outage_of(0, 0, 1)), BILZHAAN_NOTICE_REFUSED);
+    EQUAL(number_of(look_up_of(0, BILZHAAN_ENERGY, 100)), BILZHAAN_NOTHING_IN_FORCE);
+}
+
 /* A variation of facility 0 for period 100, of one pair. */
 static struct record varied(int service, int reason, int32_t price, int32_t quantity)
 {
@@ -339,6 +354,7 @@ int main(void)
     times();
     places();
     maxima();
+    links();
     reasons();
     answers();
     printf("%ld passed, %ld failed\n", passed, failed);

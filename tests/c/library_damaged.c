@@ -59,7 +59,7 @@ static void head(void)
 
 static void kinds(void)
 {
-    static const int32_t none[] = {0, 3, 7, -1, INT32_MIN, INT32_MAX};
+    static const int32_t none[] = {0, 4, 7, -1, INT32_MIN, INT32_MAX};
     struct book b = usual_book(0);
     EQUAL(number_of(&b, energy(BILZHAAN_CALL_STANDING, 100, 0, 70)), 0);
     for (size_t i = 0; i < sizeof none / sizeof none[0]; i++) {
@@ -70,7 +70,7 @@ static void kinds(void)
         /* a total asks for no kind */
         EQUAL(call(&b, total_of(0, 100)).words[0], 1);
         EQUAL(call(&b, total_of(0, 100)).sum, 70);
-        /* such a kind isn't held, so a capability of either kind is accepted */
+        /* such a kind isn't held, so a capability of any kind is accepted */
         EQUAL(number_of(&b, capability_of(0, i % 2 ? usual_load : usual_generation)), 0);
         EQUAL(number_of(&b, look_up_of(0, 0, 100)), 0);
     }

@@ -111,9 +111,10 @@ static void capabilities(void)
         uint32_t for_load = i == 12 || i == 16 ? BILZHAAN_CAPABILITY_REFUSED : 0;
         EQUAL(with_w(&b, 1, usual_load, i, highest[i]), for_load);
     }
-    /* "kind not 1 or 2 or unlike a held 1 or 2" */
+    /* "kind not 1 or 2 or unlike a held 1 or 2", and 3 likewise */
     EQUAL(with_w(&b, 0, usual_generation, 0, 0), BILZHAAN_CAPABILITY_REFUSED);
-    EQUAL(with_w(&b, 0, usual_generation, 0, 3), BILZHAAN_CAPABILITY_REFUSED);
+    EQUAL(with_w(&b, 0, usual_generation, 0, 4), BILZHAAN_CAPABILITY_REFUSED);
+    EQUAL(number_of(&b, capability_of(0, usual_link)), BILZHAAN_CAPABILITY_REFUSED);
     EQUAL(number_of(&b, capability_of(0, usual_load)), BILZHAAN_CAPABILITY_REFUSED);
     EQUAL(number_of(&b, capability_of(1, usual_generation)), BILZHAAN_CAPABILITY_REFUSED);
     /* a capability leaves the outage window and the offers of its facility */

@@ -1,6 +1,6 @@
 /* Tests of the library from C by hand: records, the opening, every refusal from 1 to 20, gate closure, variations
- * taken back, damaged books, what the header says of lent words, document 01's cases and its worked run. Prints
- * 'N passed, M failed'. */
+ * taken back, import links, damaged books, what the header says of lent words, document 01's cases and its worked run.
+ * Prints 'N passed, M failed'. */
 #include "library_test.h"
 
 #include <inttypes.h>
@@ -106,6 +106,7 @@ int main(void)
     test_refusals();
     test_gate();
     test_taken_back();
+    test_links();
     test_damaged();
     test_lent();
     EQUAL(numbers_drawn, 0xFFFFF); /* 0 to 19; 20 is the opening's and the record test's */

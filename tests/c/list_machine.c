@@ -104,6 +104,32 @@ static void used_bytes(rec r, bool used[112])
     }
 }
 
+/* ---- "Facility kinds: 1 generation, 2 load." "A cross-border link becomes facility kind 3" ---- */
+
+/* What each kind may do, by the digits of services and of reasons. */
+static const struct facility_kind {
+    int64_t number;
+    const char *offers;      /* 9: where its mark decides; "It offers energy only" */
+    const char *marks;       /* 8 "load with mark 0 or 4 set"; "mark 0 only" */
+    const char *reasons;     /* 17 "1 generation", "2 generation", "6 load"; "Reasons 3, 4 and 5 are open to it" */
+    const char *proportions; /* 15 "generation reserve" */
+    int64_t longest_outage;  /* 7 "1–3 (load 1–48)"; "An outage call for it is refused with 7." */
+} facility_kinds[] = {
+    {1, "01234", "01234", "12345", "123", 3},
+    {2, "01234", "123", "3456", "", 48},
+    {3, "0", "0", "345", "", 0},
+};
+
+static bool has_digit(const char *digits, int n) { return n <= 9 && strchr(digits, '0' + n) != NULL; }
+
+static const struct facility_kind *kind_numbered(int64_t number)
+{
+    for (size_t i = 0; i < sizeof facility_kinds / sizeof facility_kinds[0]; i++)
+        if (facility_kinds[i].number == number)
+            return &facility_kinds[i];
+    return NULL;
+}
+
 /* ---- "The list machine": what the list of accepted calls shows, newest first ---- */
 
 /* "Clock: newest call 1's minute, else 0." */
@@ -130,7 +156,8 @@ static int64_t capability(const machine *m, int f, int w)
     return r ? w_of(r, w) : 0;
 }
 
-static int64_t kind(const machine *m, int f) { return capability(m, f, 0); }
+/* null where it has none */
+static const struct facility_kind *kind(const machine *m, int f) { return kind_numbered(capability(m, f, 0)); }
 
 /* "Its window is m div 30 + 1 to m div 30 + n." "None yet: .. an empty window" */
 static bool in_outage(const machine *m, int f, int64_t period)
@@ -214,19 +241,20 @@ static bool reason_holds(const machine *m, rec r, rec old, rec new)
     int64_t period = period_of(r);
     int64_t old_total = gate_total(old);
     int64_t new_total = gate_total(new);
+    if (!has_digit(kind(m, f)->reasons, reason_of(r)))
+        return false;
     switch (reason_of(r)) {
-    case 1: /* "generation (synchronising profile)" */
-        return kind(m, f) == 1;
-    case 2: /* "generation, P in the facility's outage window" */
-        return kind(m, f) == 1 && in_outage(m, f, period);
+    case 1: /* "(synchronising profile)" */
+        return true;
     case 3: /* "service 0, P in notice 3, new total below old" */
         return service_of(r) == 0 && in_notice(m, 3, period) && new_total < old_total;
     case 4: /* "4, 5 P in that notice, new total above old" */
         return in_notice(m, 4, period) && new_total > old_total;
     case 5:
         return in_notice(m, 5, period) && new_total > old_total;
-    case 6: /* "load, P in the outage window" */
-        return kind(m, f) == 2 && in_outage(m, f, period);
+    case 2: /* "P in the facility's outage window" */
+    case 6: /* "P in the outage window" */
+        return in_outage(m, f, period);
     }
     return false; /* "Inside that it needs a reason" */
 }
@@ -303,12 +331,12 @@ int list_machine_record_number(const uint8_t *bytes, size_t length, int32_t faci
     return 0;
 }
 
-/* 5 "facility has kind neither 1 nor 2 in the book (calls 3, 4, 5, 8)" */
+/* 5 "facility has kind neither 1 nor 2 in the book (calls 3, 4, 5, 8)"; "Refusals 5 and 8 read 1, 2 or 3 for the kind." */
 static bool refused_5(const machine *m, rec r)
 {
     if (call_of(r) != 3 && call_of(r) != 4 && call_of(r) != 5 && call_of(r) != 8)
         return false;
-    return kind(m, facility_of(r)) != 1 && kind(m, facility_of(r)) != 2;
+    return !kind(m, facility_of(r));
 }
 
 /* 6 "A below now or above 1,000,000,000" */
@@ -321,8 +349,8 @@ static bool refused_6(const machine *m, rec r)
 static bool refused_7(const machine *m, rec r)
 {
     switch (call_of(r)) {
-    case 5: /* "outage: not 0 ≤ m ≤ now, or n outside 1–3 (load 1–48)" */
-        return outside(0, now(m), a_of(r)) || outside(1, kind(m, facility_of(r)) == 2 ? 48 : 3, b_of(r));
+    case 5: /* "outage: not 0 ≤ m ≤ now, or n outside" what the kind has; no n is inside 1 to 0 */
+        return outside(0, now(m), a_of(r)) || outside(1, kind(m, facility_of(r))->longest_outage, b_of(r));
     case 6: /* "notice: reason not 3–5, or not 0 ≤ A ≤ B ≤ 40,000,000" */
         return outside(3, 5, reason_of(r)) || !(0 <= a_of(r) && a_of(r) <= b_of(r) && b_of(r) <= 40000000);
     case 7: /* "withdrawal: reason not 5" */
@@ -332,15 +360,13 @@ static bool refused_7(const machine *m, rec r)
 }
 
 /* 8 "capability: kind not 1 or 2 or unlike a held 1 or 2; W1–W6 outside 0–99,999; W7, W8 outside 0–9,999; W9–W11
- * outside 0–1,000; a mark not 0 or 1; load with mark 0 or 4 set" */
+ * outside 0–1,000; a mark not 0 or 1; load with mark 0 or 4 set"; a link "may have mark 0 only" */
 static bool refused_8(const machine *m, rec r)
 {
     if (call_of(r) != 2)
         return false;
-    int64_t held = kind(m, facility_of(r));
-    if (w_of(r, 0) != 1 && w_of(r, 0) != 2)
-        return true;
-    if ((held == 1 || held == 2) && w_of(r, 0) != held)
+    const struct facility_kind *filed = kind_numbered(w_of(r, 0)), *held = kind(m, facility_of(r));
+    if (!filed || (held && held != filed))
         return true;
     for (int i = 1; i <= 6; i++)
         if (outside(0, 99999, w_of(r, i)))
@@ -354,13 +380,17 @@ static bool refused_8(const machine *m, rec r)
     for (int i = 12; i <= 16; i++)
         if (outside(0, 1, w_of(r, i)))
             return true;
-    return w_of(r, 0) == 2 && (w_of(r, 12) == 1 || w_of(r, 16) == 1);
+    for (int s = 0; s <= 4; s++)
+        if (w_of(r, 12 + s) == 1 && !has_digit(filed->marks, s))
+            return true;
+    return false;
 }
 
-/* 9 "mark for the service not 1" */
+/* 9 "mark for the service not 1"; of a link it "also covers its offers for services 1 to 4" */
 static bool refused_9(const machine *m, rec r)
 {
-    return is_offer(r) && capability(m, facility_of(r), 12 + service_of(r)) != 1;
+    int f = facility_of(r), s = service_of(r);
+    return is_offer(r) && (capability(m, f, 12 + s) != 1 || !has_digit(kind(m, f)->offers, s));
 }
 
 /* 10 "slot outside 0–335; P begun (30·P ≤ now) or P ≥ 48·(d + 7), d the day of now. Also calls 8 and 9, for P." */
@@ -427,7 +457,7 @@ static bool refused_14(const machine *m, rec r)
 static bool refused_15(const machine *m, rec r)
 {
     int f = facility_of(r), s = service_of(r);
-    return is_offer(r) && s >= 1 && s <= 3 && kind(m, f) == 1
+    return is_offer(r) && has_digit(kind(m, f)->proportions, s)
         && (proportion_of(r) == 0 || proportion_of(r) > capability(m, f, 8 + s));
 }
 

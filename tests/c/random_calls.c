@@ -275,7 +275,7 @@ static int some_reason(struct random *r, const struct scene *scene, int f, int s
     if (block[0] == 1)
         holding[count++] = 1;
     if (block[17] <= period && period <= block[18])
-        holding[count++] = block[0] == 1 ? 2 : 6;
+        holding[count++] = block[0] == 1 || (block[0] == 3 && one_in(r, 2)) ? 2 : 6;
     for (int i = 0; i < 3; i++)
         if (notices[2 * i] <= period && period <= notices[2 * i + 1] && (i > 0 || s == 0))
             holding[count++] = 3 + i;
@@ -414,21 +414,37 @@ static struct record some_clock(struct random *r, const struct scene *scene)
     return clock_at((int32_t)clamp(to, INT32_MIN, INT32_MAX));
 }
 
+int32_t random_kind(struct random *r, int32_t services)
+{
+    return one_in(r, 4) ? 3 : one_in(r, services == 1 ? 12 : 3) ? 2 : 1;
+}
+
+void clear_marks(int32_t w[17])
+{
+    for (int s = 0; s < 5; s++)
+        if ((w[0] == 2 && (s == 0 || s == 4)) || (w[0] == 3 && s > 0))
+            w[12 + s] = 0;
+}
+
 static struct record some_capability(struct random *r, const struct scene *scene)
 {
-    static const int32_t highest[17] = {2, 99999, 99999, 99999, 99999, 99999, 99999, 9999, 9999,
+    static const int32_t highest[17] = {3, 99999, 99999, 99999, 99999, 99999, 99999, 9999, 9999,
                                         1000, 1000, 1000, 1, 1, 1, 1, 1};
     int32_t w[17];
     int f = some_facility(r, scene), held = block_of(scene, f)[0];
-    w[0] = (held == 1 || held == 2) && !one_in(r, 15) ? held : one_in(r, scene->services == 1 ? 12 : 3) ? 2 : 1;
+    w[0] = held >= 1 && held <= 3 && !one_in(r, 15) ? held : random_kind(r, scene->services);
     for (int i = 1; i < 17; i++) {
         int64_t most = i <= 6 && !one_in(r, 12) ? between(r, 20, 900) : highest[i];
         w[i] = (int32_t)(one_in(r, 4) ? most : between(r, most / 2, most));
         if (i >= 12)
             w[i] = one_in(r, 12) ? 0 : 1;
     }
-    if (w[0] == 2 && !one_in(r, 20))
-        w[12] = w[16] = 0;
+    if (!one_in(r, 20))
+        clear_marks(w);
+    if (one_in(r, 20))
+        w[between(r, 12, 16)] = 1;
+    if (one_in(r, 20)) /* no kind, with marks that some kind may have */
+        w[0] = one_in(r, 2) ? 4 : 0;
     if (one_in(r, 12)) {
         int i = (int)between(r, 0, 16);
         w[i] = one_in(r, 3) ? any_word(r) : one_in(r, 2) ? -1 : highest[i] + 1;

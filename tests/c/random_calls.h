@@ -37,6 +37,10 @@ size_t place_of_cell(int32_t facilities, int32_t services, int f, int s, int h, 
 /* Writes a call into the bytes and returns its length, 0 to 224. */
 size_t random_call(struct random *r, struct scene *scene, uint8_t bytes[LONGEST_RECORD]);
 
+/* A capability's kind, and w without the marks that a facility of its kind may not have. */
+int32_t random_kind(struct random *r, int32_t services);
+void clear_marks(int32_t w[17]);
+
 /* A variation of this facility and service for this period, mostly near to the offer that stands, or of blanks alone. */
 struct record random_variation(struct random *r, struct scene *scene, int f, int s, int64_t period);
 

@@ -244,6 +244,24 @@ static void taken_back(void)
     EQUAL(a.sum, 9);
 }
 
+/* A link's capability, field by name, and its energy. */
+static void import_link(void)
+{
+    const struct bilzhaan_capability link = {.facility = 1, .kind = BILZHAAN_LINK, .max_generation = 90, .max_combined = 80,
+                                             .registered = {1}};
+    const struct bilzhaan_offer energy = {.facility = 1, .period = 100, .pairs = {{1, 80}}};
+    const struct bilzhaan_offer reserve = {.facility = 1, .service = 1, .period = 100, .pairs = {{1, 80}}};
+    EQUAL(bilzhaan_open(words, sizeof words / sizeof words[0], 2, 5, limits), BILZHAAN_ACCEPTED);
+    bilzhaan_write_capability(written, &link);
+    EQUAL(filed(), BILZHAAN_ACCEPTED);
+    bilzhaan_write_standing(written, &energy);
+    EQUAL(filed(), BILZHAAN_ACCEPTED);
+    bilzhaan_write_standing(written, &reserve);
+    EQUAL(filed(), BILZHAAN_NOT_REGISTERED);
+    bilzhaan_write_outage(written, 1, 0, 1);
+    EQUAL(filed(), BILZHAAN_NOTICE_REFUSED);
+}
+
 int main(int count, char **arguments)
 {
     if (count == 2 && strcmp(arguments[1], "--texts") == 0) {
@@ -263,6 +281,7 @@ int main(int count, char **arguments)
     out_of_range();
     answered();
     taken_back();
+    import_link();
     texts();
     printf("%ld passed, %ld failed\n", passed, failed);
     return failed != 0;

@@ -160,12 +160,14 @@ int main(int argc, char **argv)
     replay_lists(argv[1], "five_services");
     replay_lists(argv[1], "every_byte");
     replay_lists(argv[1], "k1_calls");
+    replay_lists(argv[1], "k2_calls");
     for (int i = 31; i <= 36; i++) {
         char name[32];
         snprintf(name, sizeof name, "program_%d", i);
         replay_program(argv[1], name);
     }
     replay_program(argv[1], "k1_program");
+    replay_program(argv[1], "k2_program");
     printf("%ld passed, %ld failed\n", passed, failed);
     return failed != 0;
 }

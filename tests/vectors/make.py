@@ -14,12 +14,12 @@ import sys
 HERE = os.path.dirname(os.path.abspath(__file__))
 sys.path.insert(0, HERE)
 
-from lists import (damaged_books, filing_edges, largest_book, no_kind, openings, proportions, record_tests, sound_books,  # noqa: E402
+from lists import (damaged_books, filing_edges, largest_book, links, no_kind, openings, proportions, record_tests, sound_books,  # noqa: E402
                    taken_back, unusable_books)
 from lists.form import Script  # noqa: E402
 
 FILES = {module.__name__.split('.')[-1]: module for module in
-         (openings, unusable_books, record_tests, no_kind, proportions, filing_edges, sound_books, taken_back, damaged_books,
+         (openings, unusable_books, record_tests, no_kind, proportions, filing_edges, sound_books, taken_back, links, damaged_books,
           largest_book)}
 
 

@@ -8,8 +8,9 @@ use lib.Dec.{eqb}
 use lib.IntN.{ℤ}
 use lib.ListN.{length}
 use borrow.Author.Tests.{eqb-true, not-false}
+use Rattle.offer_rules.specs.Numbers.{between}
 use Rattle.offer_rules.proofs.Drawn.{and-left, then-zero, draw-zero}
-use Rattle.book_rules.specs.Record.{byte, call-of, service-of, between, is-record, record-number}
+use Rattle.book_rules.specs.Record.{byte, call-of, service-of, is-record, record-number}
 use Rattle.book_rules.specs.Words.{book-size, is-book}
 use Rattle.book_rules.specs.Force.{plain}
 use Rattle.book_rules.specs.Book.{facilities-in, services-in}

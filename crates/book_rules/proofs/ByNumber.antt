@@ -1,7 +1,7 @@
 -- Demands 1 and 2: the number drawn is the lowest whose condition applies, and a refused call changes nothing.
 use mathlib.Core.Path.{_≡_, refl, sym, _∙_, ap}
 use mathlib.Core.Logic.{_⊎_, inl, inr, ⊎-elim}
-use mathlib.Core.Bool.{Bool, true, false, cond, not, _||_}
+use mathlib.Core.Bool.{Bool, true, false, cond, not}
 use mathlib.Core.List.{List, [], _∷_}
 use mathlib.Core.Option.{Option, none, some}
 use Prim.Native.Nat.{ℕ, zero, suc, _+_, _≤_, _<_}
@@ -13,7 +13,7 @@ use borrow.Author.Tests.{eqb-true, eqb-false, eq-eqb, ne-eqb}
 use Rattle.offer_rules.specs.Numbers.{draw, _then_}
 use Rattle.offer_rules.specs.Offer.{offer-number}
 use Rattle.offer_rules.specs.Gate.{standing-gate-refuses}
-use Rattle.offer_rules.proofs.Drawn.{then-eq, then-zero, draw-zero, then-assoc}
+use Rattle.offer_rules.proofs.Drawn.{or-false, then-eq, then-zero, draw-zero, then-assoc}
 use Rattle.book_rules.specs.Record.{is-record, outside, has-stray, record-number}
 use Rattle.book_rules.specs.Words.{is-book}
 use Rattle.book_rules.specs.Force.{View, Answer, plain}
@@ -30,10 +30,6 @@ lowest n [] = 0
 lowest n (t ∷ l) = draw t n then lowest (suc n) l
 
 -- ---- laws of numbers drawn in order
-
-or-false : (t : Bool) → (t || false) ≡ t
-or-false true = refl
-or-false false = refl
 
 skip : (n m : ℕ) → (draw false n then m) ≡ m
 unfolding draw _then_

@@ -7,9 +7,9 @@ use native.Mathlib.Omega.{arith}
 use lib.Dec.{leb, eqb}
 use lib.ListN.{length}
 use borrow.Author.Tests.{leb-true, leb-false, not-false}
-use Rattle.offer_rules.specs.Numbers.{toNat, _then_}
+use Rattle.offer_rules.specs.Numbers.{toNat, between, _then_}
 use Rattle.offer_rules.proofs.Drawn.{and-left, and-right, or-left, or-right, then-zero, draw-zero}
-use Rattle.book_rules.specs.Record.{byte, call-of, facility-of, service-of, period-word, reason-of, word-A, word-B, capability-in, offer-in, between, used, uses, is-record, outside, record-number, words-at}
+use Rattle.book_rules.specs.Record.{byte, call-of, facility-of, service-of, period-word, reason-of, word-A, word-B, capability-in, offer-in, used, uses, is-record, outside, record-number, words-at}
 use Rattle.book_rules.specs.Force.{View, plain}
 use Rattle.book_rules.specs.Refusals.{judge, reply, clock-number, capability-number, standing-number, variation-number, facility-number, outage-number, notice-number, withdrawal-number, look-up-number, period-number, look-up-reply, total-reply}
 

@@ -9,6 +9,7 @@ pub mod Opening
 pub mod EveryCall
 pub mod Striking
 pub mod EveryRun
+pub mod ByKind
 pub mod ByNumber
 pub mod OneCall
 pub mod Afterwards

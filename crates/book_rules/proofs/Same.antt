@@ -12,12 +12,12 @@ use lib.IntN.{ℤ, pos, negsuc}
 use lib.Signed.{leZ}
 use lib.ListN.{length}
 use borrow.Author.Tests.{leb-true, ne-eqb, le-ltb, not-false}
-use Rattle.offer_rules.specs.Numbers.{toNat, word, beyond}
+use Rattle.offer_rules.specs.Numbers.{toNat, word, between, beyond}
 use Rattle.offer_rules.specs.Time.{slot-of, start-of, horizon-end}
 use Rattle.offer_rules.specs.Gate.{Window}
 use Rattle.offer_rules.proofs.Drawn.{and-left, and-right, or-left, draw-zero}
 use Rattle.offer_rules.proofs.Periods.{within, one-of-a-slot}
-use Rattle.book_rules.specs.Record.{facility-of, service-of, period-word, reason-of, word-A, word-B, capability-in, offer-in, between}
+use Rattle.book_rules.specs.Record.{facility-of, service-of, period-word, reason-of, word-A, word-B, capability-in, offer-in}
 use Rattle.book_rules.specs.Words.{part, put, book-size, book-mark, book-version, clock-place, limits-place, cell-place, standing-half, variation-half, cell, holding, standing-stamp, variation-stamp}
 use Rattle.book_rules.specs.Force.{variation-made}
 use Rattle.book_rules.specs.Refusals.{judge, clock-number, notice-number}

@@ -10,9 +10,9 @@ use lib.Dec.{eqb}
 use lib.IntN.{ℤ, pos}
 use lib.ListN.{length}
 use borrow.Author.Tests.{eqb-true, eqb-false, not-true, not-false}
-use Rattle.offer_rules.specs.Numbers.{toNat, word}
+use Rattle.offer_rules.specs.Numbers.{toNat, word, between}
 use Rattle.offer_rules.proofs.Drawn.{and-left, and-right, then-eq, then-zero}
-use Rattle.book_rules.specs.Record.{call-of, facility-of, service-of, period-word, reason-of, offer-in, between, used, uses, sizes-ok}
+use Rattle.book_rules.specs.Record.{call-of, facility-of, service-of, period-word, reason-of, offer-in, used, uses, sizes-ok}
 use Rattle.book_rules.specs.Words.{opening-words, opening-number}
 use Rattle.book_rules.specs.Force.{View, Answer, plain, found, totalled}
 use Rattle.book_rules.specs.Refusals.{judge, reply, look-up-reply, total-reply, number, answer, after}

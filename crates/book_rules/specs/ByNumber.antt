@@ -14,7 +14,7 @@ use Rattle.offer_rules.specs.Gate.{gate-refuses, standing-gate-refuses}
 use Rattle.book_rules.specs.Record.{call-of, facility-of, service-of, period-word, reason-of, word-A, word-B, capability-in, offer-in, is-record, outside, has-stray}
 use Rattle.book_rules.specs.Words.{is-book}
 use Rattle.book_rules.specs.Force.{View, InForce, in-force, will-stand, pairs-of, counted}
-use Rattle.book_rules.specs.Refusals.{has-kind, clock-refused, outage-refused, notice-refused, withdrawal-refused, capability-refused, is-registered, equal-words, grounds}
+use Rattle.book_rules.specs.Refusals.{has-kind, clock-refused, outage-refused, notice-refused, withdrawal-refused, capability-refused, registration-refused, equal-words, grounds}
 use Rattle.book_rules.specs.Book.{book-view}
 
 abbrev pub is-call : ℕ → List ℕ → Bool
@@ -52,7 +52,7 @@ module _ (vw : View) (b : List ℕ) where
   -- 5 to 19.
   unfoldable pub conditions-from-5 : List Bool
   conditions-from-5 =
-      -- 5 "facility has kind neither 1 nor 2 in the book (calls 3, 4, 5, 8)"
+      -- 5 "facility has kind neither 1 nor 2 in the book (calls 3, 4, 5, 8)", nor 3
       (((is-offer b || is-call 5 b) || is-call 8 b) && not (has-kind own-capability))
       -- 6 the clock
       ∷ ((is-call 1 b && clock-refused (vw .now) (word-A b))
@@ -61,8 +61,8 @@ module _ (vw : View) (b : List ℕ) where
       || (is-call 7 b && withdrawal-refused (reason-of b)))
       -- 8 "capability: .."
       ∷ ((is-call 2 b && capability-refused own-capability (capability-in b))
-      -- 9 "mark for the service not 1"
-      ∷ ((is-offer b && not (is-registered own-capability (service-of b)))
+      -- 9 "mark for the service not 1", and a link's offers for services 1 to 4
+      ∷ ((is-offer b && registration-refused own-capability (service-of b))
       -- 10 "slot outside 0–335; P begun .. or P ≥ 48·(d + 7) .. Also calls 8 and 9, for P."
       ∷ (((is-call 3 b && slot-refused (period-word b)) || (((is-call 4 b || is-call 8 b) || is-call 9 b) && period-refused (vw .now) (period-word b)))
       -- 11 to 16 of an offer

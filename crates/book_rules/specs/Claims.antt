@@ -7,9 +7,9 @@ use Prim.Native.Nat.{ℕ, _<_}
 use lib.Dec.{eqb}
 use lib.IntN.{ℤ}
 use lib.ListN.{length}
-use Rattle.offer_rules.specs.Numbers.{toNat}
+use Rattle.offer_rules.specs.Numbers.{toNat, between}
 use Rattle.offer_rules.specs.Gate.{gate-refuses}
-use Rattle.book_rules.specs.Record.{call-of, facility-of, service-of, period-word, reason-of, between, record-number}
+use Rattle.book_rules.specs.Record.{call-of, facility-of, service-of, period-word, reason-of, record-number}
 use Rattle.book_rules.specs.Words.{is-book, opening-number, opening-words}
 use Rattle.book_rules.specs.Force.{InForce, in-force, pairs-of, Answer, plain}
 use Rattle.book_rules.specs.Refusals.{grounds}
@@ -59,7 +59,8 @@ unfoldable pub EveryList : Type 0
 EveryList = (w : List ℤ) (F S : ℤ) (limits : List ℤ) → length limits ≡ 6 → opening-number w F S limits ≡ 0
     → (bs : List (List ℕ)) → book-answers (opening-words w F S limits) bs ≡ list-answers (toNat F) (toNat S) limits [] bs
 
--- "Filings are calls 2 to 5, each for the facility in byte 6": a filing for another facility than f.
+-- "Filings are calls 2 to 5, each for the facility in byte 6": a filing for another facility than f, of whatever kind.
+-- "Striking out filings for other facilities covers links too" (document 02).
 unfoldable pub is-others-filing : ℕ → List ℕ → Bool
 is-others-filing f b = between 2 5 (call-of b) && not (eqb (facility-of b) f)
 

@@ -5,6 +5,7 @@ pub mod Force
 pub mod Refusals
 pub mod Book
 pub mod ListMachine
+pub mod ByKind
 pub mod ByNumber
 pub mod Claims
 pub mod ContractedRun

@@ -6,7 +6,7 @@ use lib.Dec.{leb, ltb, eqb}
 use lib.IntN.{ℤ, pos, negsuc}
 use lib.Signed.{leZ}
 use lib.ListN.{length, getD, drop}
-use Rattle.offer_rules.specs.Numbers.{eqZ, toNat, draw, _then_}
+use Rattle.offer_rules.specs.Numbers.{eqZ, toNat, between, draw, _then_}
 
 abbrev pub byte : List ℕ → ℕ → ℕ
 byte b i = getD b i 0
@@ -54,9 +54,6 @@ unfoldable pub offer-in : List ℕ → List ℤ
 offer-in b = pos (byte b 14 * 256 + byte b 15) ∷ (word-at b 16 ∷ (word-at b 20 ∷ words-at b 32 20))
 
 -- ---- "The nine calls and what they use", from byte 6 on
-
-abbrev pub between : ℕ → ℕ → ℕ → Bool
-between a z i = leb a i && leb i z
 
 -- "An offer for service 0 uses both ramps and ten pairs; for 1 to 3 the proportion and five pairs; for 4 five pairs."
 unfoldable pub used-by-offer : ℕ → ℕ → Bool

@@ -3,18 +3,19 @@
 use mathlib.Core.Bool.{Bool, true, false, cond, not, _&&_, _||_}
 use mathlib.Core.List.{List, [], _∷_}
 use mathlib.Core.Option.{Option, none, some}
-use Prim.Native.Nat.{ℕ}
+use Prim.Native.Nat.{ℕ, zero, suc}
 use lib.Dec.{eqb}
 use lib.IntN.{ℤ, pos}
 use lib.Signed.{leZ}
-use Rattle.offer_rules.specs.Numbers.{eqZ, toNat, beyond, any-beyond, draw, _then_}
+use Rattle.offer_rules.specs.Numbers.{eqZ, toNat, between, beyond, any-beyond, draw, _then_}
 use Rattle.offer_rules.specs.Time.{slot-refused, period-refused}
-use Rattle.offer_rules.specs.Offer.{Pair, kind-of, is-load, is-kind, mark-for, offer-number}
+use Rattle.offer_rules.specs.Kinds.{kind-row, is-kind, may-offer, may-be-marked}
+use Rattle.offer_rules.specs.Offer.{Pair, kind-of, mark-for, offer-number}
 use Rattle.offer_rules.specs.Gate.{Grounds, gate-refuses, standing-gate-refuses}
-use Rattle.book_rules.specs.Record.{call-of, facility-of, service-of, period-word, reason-of, word-A, word-B, capability-in, offer-in, between, record-number}
+use Rattle.book_rules.specs.Record.{call-of, facility-of, service-of, period-word, reason-of, word-A, word-B, capability-in, offer-in, record-number}
 use Rattle.book_rules.specs.Force.{View, InForce, in-force, will-stand, pairs-of, counted, count-in-force, sum-in-force, Answer, plain, found, totalled}
 
--- 5 "facility has kind neither 1 nor 2 in the book (calls 3, 4, 5, 8)"
+-- 5 "facility has kind neither 1 nor 2 in the book (calls 3, 4, 5, 8)"; "Refusals 5 and 8 read 1, 2 or 3 for the kind" (document 02)
 unfoldable pub has-kind : List ℤ → Bool
 has-kind c = is-kind (kind-of c)
 
@@ -28,9 +29,9 @@ clock-refused now a = beyond (pos now) (pos 1000000000) a
 unfoldable pub clock-number : ℕ → ℤ → ℕ
 clock-number now a = draw (clock-refused now a) 6
 
--- 7 "outage: not 0 ≤ m ≤ now, or n outside 1–3 (load 1–48)"
+-- 7 "outage: not 0 ≤ m ≤ now, or n outside 1–3 (load 1–48)"; a link's always (document 02)
 abbrev pub outage-refused : ℕ → List ℤ → ℤ → ℤ → Bool
-outage-refused now c m n = beyond (pos 0) (pos now) m || beyond (pos 1) (cond (is-load (kind-of c)) (pos 48) (pos 3)) n
+outage-refused now c m n = beyond (pos 0) (pos now) m || beyond (pos 1) (kind-row (kind-of c) .longest-outage) n
 
 unfoldable pub outage-number : ℕ → List ℤ → ℤ → ℤ → ℕ
 outage-number now c m n = draw (outage-refused now c m n) 7
@@ -52,7 +53,7 @@ withdrawal-number k = draw (withdrawal-refused k) 7
 abbrev pub is-registered : List ℤ → ℕ → Bool
 is-registered c s = eqZ (mark-for c s) (pos 1)
 
--- 8 "capability: kind not 1 or 2 or unlike a held 1 or 2"
+-- 8 "capability: kind not 1 or 2 or unlike a held 1 or 2"; "Refusals 5 and 8 read 1, 2 or 3 for the kind" (document 02)
 unfoldable pub kind-refused : List ℤ → ℤ → Bool
 kind-refused held kind = not (is-kind kind) || (has-kind held && not (eqZ (kind-of held) kind))
 
@@ -60,9 +61,14 @@ kind-refused held kind = not (is-kind kind) || (has-kind held && not (eqZ (kind-
 unfoldable pub maxima-refused : List ℤ → Bool
 maxima-refused c = (any-beyond (pos 0) (pos 99999) c 1 6 || any-beyond (pos 0) (pos 9999) c 7 2) || any-beyond (pos 0) (pos 1000) c 9 3
 
--- "a mark not 0 or 1; load with mark 0 or 4 set"
+-- A mark set among the first n that the facility's kind may not have.
+unfoldable pub any-mark-astray : List ℤ → ℕ → Bool
+any-mark-astray c zero = false
+any-mark-astray c (suc n) = any-mark-astray c n || (is-registered c n && not (may-be-marked (kind-of c) n))
+
+-- "a mark not 0 or 1; load with mark 0 or 4 set"; of a link "mark 0 only" (document 02)
 unfoldable pub marks-refused : List ℤ → Bool
-marks-refused c = any-beyond (pos 0) (pos 1) c 12 5 || (is-load (kind-of c) && (is-registered c 0 || is-registered c 4))
+marks-refused c = any-beyond (pos 0) (pos 1) c 12 5 || any-mark-astray c 5
 
 abbrev pub capability-refused : List ℤ → List ℤ → Bool
 capability-refused held c = (kind-refused held (kind-of c) || maxima-refused c) || marks-refused c
@@ -70,9 +76,12 @@ capability-refused held c = (kind-refused held (kind-of c) || maxima-refused c) 
 unfoldable pub capability-number : List ℤ → List ℤ → ℕ
 capability-number held c = draw (capability-refused held c) 8
 
--- 9 "mark for the service not 1"
+-- 9 "mark for the service not 1"; "also covers [a link's] offers for services 1 to 4" (document 02), whatever its marks
+abbrev pub registration-refused : List ℤ → ℕ → Bool
+registration-refused c s = not (is-registered c s) || not (may-offer (kind-of c) s)
+
 unfoldable pub registration-number : List ℤ → ℕ → ℕ
-registration-number c s = draw (not (is-registered c s)) 9
+registration-number c s = draw (registration-refused c s) 9
 
 -- 18 "standing offer equal to the held one in cell words 1–23"
 unfoldable pub equal-words : List ℤ → List ℤ → Bool

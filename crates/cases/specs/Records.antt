@@ -2,7 +2,7 @@
 use mathlib.Core.List.{List, [], _∷_, _++_}
 use Prim.Native.Nat.{ℕ, _*_, _-_, _/_, _%_}
 use lib.IntN.{ℤ, pos, negsuc}
-use lib.ListN.{length, replicate}
+use lib.ListN.{length, take, drop, replicate}
 use Rattle.offer_rules.specs.Offer.{Pair}
 
 -- A signed word's four bytes, most significant first.
@@ -38,14 +38,30 @@ q at p = record { price = pos p; quantity = pos q }
 abbrev pub clock : ℕ → List ℕ
 clock minute = record-bytes 1 0 0 (pos 0) 0 (pos minute) (pos 0) []
 
--- A generation facility registered for energy, with these generation and combined maxima.
+-- W0 to W16: a kind, its generation and combined maxima, and its marks.
+abbrev pub capability-words : ℕ → ℕ → ℕ → List ℤ → List ℤ
+capability-words kind generation combined marks = pos kind ∷ (pos generation ∷ (pos combined ∷ (replicate 9 (pos 0) ++ marks)))
+
+abbrev pub energy-mark : List ℤ
+energy-mark = pos 1 ∷ replicate 4 (pos 0)
+
+-- A generation facility registered for energy.
 abbrev pub capability : ℕ → ℕ → List ℕ
-capability generation combined =
-    record-bytes 2 0 0 (pos 0) 0 (pos 0) (pos 0)
-    (pos 1 ∷ (pos generation ∷ (pos combined ∷ (replicate 9 (pos 0) ++ (pos 1 ∷ replicate 4 (pos 0))))))
+capability generation combined = record-bytes 2 0 0 (pos 0) 0 (pos 0) (pos 0) (capability-words 1 generation combined energy-mark)
+
+abbrev pub link-capability : ℕ → ℕ → List ℤ → List ℕ
+link-capability generation combined marks = record-bytes 2 0 0 (pos 0) 0 (pos 0) (pos 0) (capability-words 3 generation combined marks)
 
 abbrev pub standing : ℕ → List Pair → List ℕ
 standing slot offer = record-bytes 3 0 0 (pos slot) 0 (pos 0) (pos 0) (pair-words offer)
+
+-- The same with a ramp-up rate.
+abbrev pub ramping : ℕ → List ℕ → List ℕ
+ramping rate r = take 16 r ++ (word-bytes (pos rate) ++ drop 20 r)
+
+-- For primary reserve.
+abbrev pub standing-reserve : ℕ → List Pair → List ℕ
+standing-reserve slot offer = record-bytes 3 0 1 (pos slot) 0 (pos 0) (pos 0) (pair-words offer)
 
 abbrev pub variation : ℕ → ℕ → List Pair → List ℕ
 variation period reason offer = record-bytes 4 0 0 (pos period) reason (pos 0) (pos 0) (pair-words offer)
@@ -58,6 +74,9 @@ notice kind first last = record-bytes 6 0 0 (pos 0) kind (pos first) (pos last) 
 
 abbrev pub look-up : ℕ → List ℕ
 look-up period = record-bytes 8 0 0 (pos period) 0 (pos 0) (pos 0) []
+
+abbrev pub look-up-reserve : ℕ → List ℕ
+look-up-reserve period = record-bytes 8 0 1 (pos period) 0 (pos 0) (pos 0) []
 
 abbrev pub total : ℕ → List ℕ
 total period = record-bytes 9 0 0 (pos period) 0 (pos 0) (pos 0) []

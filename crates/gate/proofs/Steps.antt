@@ -1,6 +1,6 @@
 -- A step of the merge keeps the answer that it comes to.
 use mathlib.Core.Path.{_≡_, refl, sym, ap, _∙_}
-use mathlib.Core.Bool.{Bool, true, false, cond, not, _&&_, _||_}
+use mathlib.Core.Bool.{Bool, true, false, cond, not, _||_}
 use mathlib.Core.List.{List, []}
 use Prim.Native.Nat.{ℕ, zero, suc, _+_, _-_, _*_, _<_, _≤_}
 use native.Mathlib.Omega.{arith}
@@ -13,6 +13,7 @@ use Rattle.offer_rules.specs.Offer.{pairs-in}
 use Rattle.gate.specs.declared.Merge.{Merge}
 use Rattle.gate.specs.Differing.{or-else, first-differing}
 use Rattle.gate.specs.Merging.{cut, rest, left-of, alike, differ, pass-old, pass-new, pass-both, either, merged, later, first-from}
+use Rattle.offer_rules.proofs.Drawn.{and-false}
 use Rattle.offer_rules.proofs.Pairs.{pairs-from, no-pairs-from}
 use Rattle.gate.proofs.Runs.{run, pass-shorter, pass-shorter-new, flip, uncut, none-left}
 
@@ -42,10 +43,6 @@ later-twice n a (suc k) = omega arith
 not-not : (x : Bool) → x ≡ not (not x)
 not-not true = refl
 not-not false = refl
-
-and-false : (x : Bool) → (x && false) ≡ false
-and-false true = refl
-and-false false = refl
 
 -- What the test of two pairs says of the one with fewer tenths left.
 differ-old : (a b : ℕ) (same : Bool) → a ≤ b → (eqb a 0 || same) ≡ not (differ a b same)

@@ -5,11 +5,12 @@ ghost use Prim.Native.Nat.{_+_, _-_, _*_, _≤_, _<_};
 ghost use lib.ListN.{length};
 ghost use Rattle.offer_rules.specs.Numbers.{toNat, eqZ};
 ghost use Rattle.offer_rules.specs.Time.{next-period};
-ghost use Rattle.offer_rules.specs.Offer.{pairs-in, is-generation, is-load};
-ghost use Rattle.offer_rules.specs.Gate.{total-tenths, same-prices, covers, is-open, reason-holds, gate-refuses, standing-gate-refuses};
+ghost use Rattle.offer_rules.specs.Offer.{pairs-in};
+ghost use Rattle.offer_rules.specs.Gate.{total-tenths, same-prices, covers, is-open, reason-met, reason-holds, gate-refuses, standing-gate-refuses};
 ghost use Rattle.gate.specs.Differing.{first-differing};
 ghost use Rattle.gate.specs.Merging.{left-of, alike, differ, merged};
 ghost use Rattle.gate.specs.Meaning.{window-of, grounds-of};
+use kinds::admits;
 use layout::facility;
 use layout::fields;
 use layout::time;
@@ -171,36 +172,22 @@ fn is_covered(window: Window, period: u64) -> bool
     (window.first <= p) & (p <= window.last)
 }
 
-fn is_generation(g: Grounds) -> bool
-    ensures { λ r. ⌜ r ≡ is-generation (g .kind) ⌝ }
-{
-    g.kind == facility::GENERATION
-}
-
-fn is_load(g: Grounds) -> bool
-    ensures { λ r. ⌜ r ≡ is-load (g .kind) ⌝ }
-{
-    g.kind == facility::LOAD
-}
-
-// "Inside that it needs a reason", with the totals of old and new.
-fn reason_holds(g: Grounds, service: u8, period: u64, old: u64, new: u64, reason: u8) -> bool
+// What a reason asks, with the totals of old and new.
+fn is_reason_met(g: Grounds, service: u8, period: u64, old: u64, new: u64, reason: u8) -> bool
     requires { ⌜ period < 2147483648 ⌝ }
-    ensures { λ r. ⌜ r ≡ reason-holds (grounds-of g) service period old new reason ⌝ }
+    ensures { λ r. ⌜ r ≡ reason-met (grounds-of g) service period old new reason ⌝ }
 {
-    let generation = is_generation(g);
-    let load = is_load(g);
     let outage = is_covered(g.outage, period);
     let surplus = is_covered(g.surplus, period);
     let shortfall = is_covered(g.shortfall, period);
     let status = is_covered(g.status, period);
     match reason {
-        1 => generation,
-        2 => generation & outage,
+        1 => true,
+        2 => outage,
         3 => ((service == facility::ENERGY) & surplus) & (new < old),
         4 => shortfall & (old < new),
         5 => status & (old < new),
-        6 => load & outage,
+        6 => outage,
         0 | 7..=255 => false,
     }
 }
@@ -213,17 +200,20 @@ pub fn is_before_closure(clock: u64, period: u64) -> bool
     clock + time::GATE_CLOSURE_MINUTES <= time::PERIOD_MINUTES * period
 }
 
-// Only reasons 3 to 5 ask for the totals.
+// "Inside that it needs a reason". Only reasons 3 to 5 ask for the totals.
 fn is_allowed(g: Grounds, service: u8, period: u64, reason: u8, old: &[i32], new: &[i32]) -> bool
     requires { ⌜ (period < 2147483648) × (length (now old) ≤ 20) × (length (now new) ≤ 20) ⌝ }
     ensures { λ r. ⌜ r ≡ reason-holds (grounds-of g) service period (total-tenths (pairs-in (now (old .entry)))) (total-tenths (pairs-in (now (new .entry)))) reason ⌝ }
 {
+    if !admits(g.kind, reason) {
+        return false;
+    }
     if (fields::ENERGY_SURPLUS <= reason) & (reason <= fields::SYSTEM_STATUS) {
         let before = total_tenths(old);
         let after = total_tenths(new);
-        return reason_holds(g, service, period, before, after, reason);
+        return is_reason_met(g, service, period, before, after, reason);
     }
-    reason_holds(g, service, period, 0, 0, reason)
+    is_reason_met(g, service, period, 0, 0, reason)
 }
 
 // 17, of a variation; old holds no pairs where no offer is in force.

@@ -27,11 +27,6 @@ pub const OUTAGE: usize = 17;
 
 pub const WORDS: usize = 32;
 
-// "Facility kinds: 1 generation, 2 load."
-pub const GENERATION: i32 = 1;
-
-pub const LOAD: i32 = 2;
-
 // "Services: 0 energy; 1, 2, 3 primary, secondary, contingency reserve; 4 regulation."
 pub const ENERGY: u8 = 0;
 

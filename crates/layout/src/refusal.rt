@@ -12,7 +12,7 @@ pub const NOT_IN_BOOK: u8 = 3;
 // "an unused byte not zero"
 pub const UNUSED_BYTE: u8 = 4;
 
-// "facility has kind neither 1 nor 2 in the book"
+// "facility has kind neither 1 nor 2 in the book", nor 3
 pub const NO_KIND: u8 = 5;
 
 // "A below now or above 1,000,000,000"
@@ -24,7 +24,7 @@ pub const NOTICE_REFUSED: u8 = 7;
 // "capability: .."
 pub const CAPABILITY_REFUSED: u8 = 8;
 
-// "mark for the service not 1"
+// "mark for the service not 1", or a link's offer for another than energy
 pub const NOT_REGISTERED: u8 = 9;
 
 // "slot outside 0–335; P begun (30·P ≤ now) or P ≥ 48·(d + 7)"

@@ -2,3 +2,4 @@
 pub mod Drawn
 pub mod Periods
 pub mod Pairs
+pub mod KindRows

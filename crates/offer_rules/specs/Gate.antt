@@ -7,7 +7,8 @@ use lib.IntN.{ℤ, pos}
 use lib.Signed.{leZ}
 use Rattle.offer_rules.specs.Numbers.{eqZ, toNat}
 use Rattle.offer_rules.specs.Time.{start-of, next-period}
-use Rattle.offer_rules.specs.Offer.{Pair, is-generation, is-load, is-energy}
+use Rattle.offer_rules.specs.Kinds.{admits}
+use Rattle.offer_rules.specs.Offer.{Pair, is-energy}
 
 -- "In the gate a quantity below 0, which only a damaged book holds, counts as 0."
 abbrev pub tenths-of : Pair → ℕ
@@ -46,15 +47,19 @@ pub record Grounds : Type 0 where
   pub shortfall : Window
   pub status : Window
 
--- "Inside that it needs a reason": 1 to 6, for service s and period p, with the totals of old and new.
-unfoldable pub reason-holds : Grounds → ℕ → ℕ → ℕ → ℕ → ℕ → Bool
-reason-holds g s p old new reason =
-    cond (eqb reason 1) (is-generation (g .kind))
-    (cond (eqb reason 2) (is-generation (g .kind) && covers (g .outage) p)
+-- What a reason, 1 to 6, asks of service s, period p and the totals of old and new.
+unfoldable pub reason-met : Grounds → ℕ → ℕ → ℕ → ℕ → ℕ → Bool
+reason-met g s p old new reason =
+    cond (eqb reason 1) true
+    (cond (eqb reason 2) (covers (g .outage) p)
     (cond (eqb reason 3) ((is-energy s && covers (g .surplus) p) && ltb new old)
     (cond (eqb reason 4) (covers (g .shortfall) p && ltb old new)
     (cond (eqb reason 5) (covers (g .status) p && ltb old new)
-    (cond (eqb reason 6) (is-load (g .kind) && covers (g .outage) p) false)))))
+    (cond (eqb reason 6) (covers (g .outage) p) false)))))
+
+-- "Inside that it needs a reason": one that admits the facility's kind (1 and 2 "generation", 6 "load", for a link 3 to 5), and is met.
+unfoldable pub reason-holds : Grounds → ℕ → ℕ → ℕ → ℕ → ℕ → Bool
+reason-holds g s p old new reason = admits (g .kind) reason && reason-met g s p old new reason
 
 -- "A variation is open when 30·P − now is 65 or more."
 abbrev pub gate-minutes : ℕ

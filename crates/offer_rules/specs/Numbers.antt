@@ -1,8 +1,8 @@
 -- Signed words as numbers, and how a refusal number is drawn.
-use mathlib.Core.Bool.{Bool, false, cond, _||_}
+use mathlib.Core.Bool.{Bool, false, cond, _&&_, _||_}
 use mathlib.Core.List.{List}
 use Prim.Native.Nat.{ℕ, zero, suc}
-use lib.Dec.{eqb}
+use lib.Dec.{leb, eqb}
 use lib.IntN.{ℤ, pos, negsuc}
 use lib.Signed.{ltZ}
 use lib.ListN.{getD, replicate}
@@ -24,6 +24,10 @@ word l i = getD l i (pos 0)
 
 abbrev pub zeros : ℕ → List ℤ
 zeros n = replicate n (pos 0)
+
+-- A number from a to z.
+abbrev pub between : ℕ → ℕ → ℕ → Bool
+between a z n = leb a n && leb n z
 
 -- Outside lo to hi.
 abbrev pub beyond : ℤ → ℤ → ℤ → Bool

@@ -2,11 +2,12 @@
 use mathlib.Core.Bool.{Bool, true, false, cond, not, _&&_, _||_}
 use mathlib.Core.List.{List, [], _∷_}
 use Prim.Native.Nat.{ℕ, _+_}
-use lib.Dec.{leb, ltb, eqb}
+use lib.Dec.{ltb, eqb}
 use lib.IntN.{ℤ, pos, _+ℤ_}
 use lib.Signed.{ltZ}
 use lib.ListN.{drop}
-use Rattle.offer_rules.specs.Numbers.{eqZ, word, beyond, draw, _then_}
+use Rattle.offer_rules.specs.Numbers.{eqZ, word, between, beyond, draw, _then_}
+use Rattle.offer_rules.specs.Kinds.{kind-row}
 
 -- A pair of an offer: its price in cents per MWh, its quantity in tenths of a MW.
 pub record Pair : Type 0 where
@@ -47,29 +48,14 @@ sum-of (x ∷ l) = x .quantity +ℤ sum-of l
 
 -- ---- standing capability data: W0 to W16 of a facility; services 0 energy, 1 to 3 reserve by class, 4 regulation
 
-abbrev pub generation : ℤ
-generation = pos 1
-
-abbrev pub load : ℤ
-load = pos 2
-
 abbrev pub kind-of : List ℤ → ℤ
 kind-of c = word c 0
-
-abbrev pub is-generation : ℤ → Bool
-is-generation kind = eqZ kind generation
-
-abbrev pub is-load : ℤ → Bool
-is-load kind = eqZ kind load
-
-abbrev pub is-kind : ℤ → Bool
-is-kind kind = is-generation kind || is-load kind
 
 abbrev pub is-energy : ℕ → Bool
 is-energy s = eqb s 0
 
 abbrev pub is-reserve : ℕ → Bool
-is-reserve s = leb 1 s && leb s 3
+is-reserve s = between 1 3 s
 
 abbrev pub max-generation : List ℤ → ℤ
 max-generation c = word c 1
@@ -137,7 +123,7 @@ ramp-refused c s o = is-energy s && (beyond (pos 0) (max-ramp-up c) (ramp-up o) 
 
 -- 15 "generation reserve: proportion 0 or above its maximum; load isn't tested"
 unfoldable pub proportion-refused : List ℤ → ℕ → List ℤ → Bool
-proportion-refused c s o = (is-generation (kind-of c) && is-reserve s) && (eqZ (proportion o) (pos 0) || ltZ (max-proportion c s) (proportion o))
+proportion-refused c s o = (kind-row (kind-of c) .proportion-tested && is-reserve s) && (eqZ (proportion o) (pos 0) || ltZ (max-proportion c s) (proportion o))
 
 -- 16 "total above generation or combined maximum (energy), or above the service's own"
 unfoldable pub above-capacity : List ℤ → ℕ → ℤ → Bool

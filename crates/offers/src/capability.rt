@@ -6,9 +6,10 @@ ghost use lib.IntN.{pos};
 ghost use lib.Signed.{ltZ};
 ghost use lib.ListN.{length};
 ghost use Rattle.offer_rules.specs.Numbers.{eqZ, word, beyond};
-ghost use Rattle.offer_rules.specs.Offer.{is-generation, ramp-refused, proportion-refused, above-capacity};
+ghost use Rattle.offer_rules.specs.Offer.{ramp-refused, proportion-refused, above-capacity};
 ghost use Rattle.offers.specs.Typed.{ramp-of, proportion-of};
 use crate::pairs::Sum;
+use kinds::is_proportion_tested;
 use layout::facility;
 use layout::offer;
 use units::Quantity;
@@ -68,12 +69,6 @@ fn is_none_or_above(maximum: Proportion, proportion: Proportion) -> bool
     is_zero(proportion.0) | (maximum.0 < proportion.0)
 }
 
-fn is_generation(kind: i32) -> bool
-    ensures { λ r. ⌜ r ≡ is-generation kind ⌝ }
-{
-    kind == facility::GENERATION
-}
-
 // "generation reserve: proportion 0 or above its maximum; load isn't tested"
 pub fn is_proportion_refused(capability: &[i32], service: u8, offer: &[i32]) -> bool
     requires { ⌜ (length (now capability) ≡ 17) × (service ≤ 4) × (length (now offer) ≡ 23) ⌝ }
@@ -83,7 +78,7 @@ pub fn is_proportion_refused(capability: &[i32], service: u8, offer: &[i32]) -> 
         capability,
         facility::MAX_PROPORTION_OF_SERVICE + service as usize,
     );
-    let is_tested = is_generation(capability[facility::KIND])
+    let is_tested = is_proportion_tested(capability[facility::KIND])
         & ((facility::PRIMARY_RESERVE <= service) & (service <= facility::CONTINGENCY_RESERVE));
     is_tested & is_none_or_above(maximum, proportion_at(offer, offer::PROPORTION))
 }

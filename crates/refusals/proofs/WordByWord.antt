@@ -9,15 +9,12 @@ use lib.IntN.{ℤ, pos}
 use lib.ListN.{length, drop, drop-of-length-le}
 use lib.Seq.{drop-cons}
 use Rattle.offer_rules.specs.Numbers.{eqZ, word}
+use Rattle.offer_rules.proofs.Drawn.{and-true}
 use Rattle.book_rules.specs.Refusals.{equal-words}
 
 and-assoc : (x y z : Bool) → (x && (y && z)) ≡ ((x && y) && z)
 and-assoc true y z = refl
 and-assoc false y z = refl
-
-and-true : (x : Bool) → (x && true) ≡ x
-and-true true = refl
-and-true false = refl
 
 pub equal-turn : (equal : Bool) (x y : List ℤ) (i : ℕ) → i < length x → i < length y
     → (equal && equal-words (drop i x) (drop i y)) ≡ ((equal && eqZ (word x i) (word y i)) && equal-words (drop (i + 1) x) (drop (i + 1) y))

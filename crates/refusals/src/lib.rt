@@ -1,15 +1,22 @@
 // Document 01, "Who draws which number": 5 to 9, 17 of a standing offer, and 18, from values that the book hands over.
 // A facility's capability is 17 words W0 to W16, an offer 23 words.
 ghost use mathlib.Core.Path.{_≡_};
-ghost use mathlib.Core.Bool.{cond, true};
+ghost use mathlib.Core.Bool.{not, _&&_};
 ghost use mathlib.Core.Option.{some};
 ghost use Prim.Native.Nat.{_+_, _/_, _≤_, _<_, max};
 ghost use lib.IntN.{pos};
 ghost use lib.ListN.{length};
 ghost use Rattle.offer_rules.specs.Numbers.{eqZ, toNat, word, draw, _then_};
-ghost use Rattle.offer_rules.specs.Offer.{is-kind};
-ghost use Rattle.book_rules.specs.Refusals.{facility-number, clock-number, outage-number, notice-number, withdrawal-number, is-registered, kind-refused, maxima-refused, marks-refused, capability-number, registration-number, equal-words, revision-number};
+ghost use Rattle.offer_rules.specs.Kinds.{is-in};
+ghost use Rattle.kinds.specs.Meaning.{range-of};
+ghost use Rattle.book_rules.specs.Refusals.{facility-number, clock-number, outage-number, notice-number, withdrawal-number, is-registered, kind-refused, maxima-refused, any-mark-astray, marks-refused, capability-number, registration-number, equal-words, revision-number};
 use gate::standing_gate_refuses;
+use kinds::Range;
+use kinds::is_in;
+use kinds::is_kind;
+use kinds::longest_outage;
+use kinds::marks;
+use kinds::may_offer;
 use layout::facility;
 use layout::fields;
 use layout::offer;
@@ -19,11 +26,6 @@ use units::any_beyond;
 use units::is_beyond;
 use units::is_equal;
 use units::nat;
-
-// The most periods of an outage: "1–3 (load 1–48)".
-const LONGEST_OUTAGE: i32 = 3;
-
-const LONGEST_LOAD_OUTAGE: i32 = 48;
 
 // ---- numbers
 
@@ -53,14 +55,7 @@ fn is_word(words: &[i32], at: usize, value: i32) -> bool
 
 // ---- 5: the facility's kind
 
-// Kind 1, generation, or 2, load.
-pub fn is_kind(kind: i32) -> bool
-    ensures { λ r. ⌜ r ≡ is-kind kind ⌝ }
-{
-    is_equal(kind, facility::GENERATION) | is_equal(kind, facility::LOAD)
-}
-
-// "facility has kind neither 1 nor 2 in the book"
+// "facility has kind neither 1 nor 2 in the book", nor 3.
 pub fn facility_number(capability: &[i32]) -> u8
     requires { ⌜ length (now capability) ≡ 17 ⌝ }
     ensures { λ r. ⌜ (r ≡ facility-number (now (capability .entry))) × (r ≤ 5) ⌝ }
@@ -84,22 +79,12 @@ pub fn clock_number(clock: u64, minute: i32) -> u8
 
 // ---- 7: outages, notices and withdrawals
 
-fn longest_outage(load: bool) -> i32
-    ensures { λ r. ⌜ r ≡ cond load (pos 48) (pos 3) ⌝ }
-{
-    if load {
-        LONGEST_LOAD_OUTAGE
-    } else {
-        LONGEST_OUTAGE
-    }
-}
-
-// "outage: not 0 ≤ m ≤ now, or n outside 1–3 (load 1–48)"
+// "outage: not 0 ≤ m ≤ now, or n outside 1–3 (load 1–48)"; a link's always.
 pub fn outage_number(clock: u64, capability: &[i32], minute: i32, count: i32) -> u8
     requires { ⌜ (clock ≤ 1000000000) × (length (now capability) ≡ 17) ⌝ }
     ensures { λ r. ⌜ (r ≡ outage-number clock (now (capability .entry)) minute count) × (r ≤ 7) ⌝ }
 {
-    let longest = longest_outage(is_word(capability, facility::KIND, facility::LOAD));
+    let longest = longest_outage(capability[facility::KIND]);
     let minute_beyond = is_beyond(0, clock as i32, minute);
     let count_beyond = is_beyond(1, longest, count);
     draw_if(minute_beyond | count_beyond, refusal::NOTICE_REFUSED)
@@ -137,7 +122,7 @@ pub fn withdrawal_number(kind: u8) -> u8
 
 // ---- 8: standing capability data
 
-// "kind not 1 or 2 or unlike a held 1 or 2"
+// "kind not 1 or 2 or unlike a held 1 or 2"; 3 as these.
 pub fn is_kind_refused(held: &[i32], kind: i32) -> bool
     requires { ⌜ length (now held) ≡ 17 ⌝ }
     ensures { λ r. ⌜ r ≡ kind-refused (now (held .entry)) kind ⌝ }
@@ -164,15 +149,33 @@ fn is_registered(capability: &[i32], service: u8) -> bool
     is_word(capability, facility::REGISTERED + service as usize, 1)
 }
 
-// "a mark not 0 or 1; load with mark 0 or 4 set"
+// A mark that is set and that the kind may not have.
+fn is_mark_astray(sent: &[i32], allowed: Range, service: u8) -> bool
+    requires { ⌜ (length (now sent) ≡ 17) × (service ≤ 4) ⌝ }
+    ensures { λ r. ⌜ r ≡ (is-registered (now (sent .entry)) service && not (is-in (range-of allowed) service)) ⌝ }
+{
+    is_registered(sent, service) & !is_in(allowed, service)
+}
+
+// "load with mark 0 or 4 set"; of a link "mark 0 only".
+fn any_mark_astray(sent: &[i32]) -> bool
+    requires { ⌜ length (now sent) ≡ 17 ⌝ }
+    ensures { λ r. ⌜ r ≡ any-mark-astray (now (sent .entry)) 5 ⌝ }
+{
+    let allowed = marks(sent[facility::KIND]);
+    let mut astray = false;
+    for s in 0..5 {
+        astray = astray | is_mark_astray(sent, allowed, s);
+    }
+    astray
+}
+
+// "a mark not 0 or 1; .."
 fn is_mark_refused(sent: &[i32]) -> bool
     requires { ⌜ length (now sent) ≡ 17 ⌝ }
     ensures { λ r. ⌜ r ≡ marks-refused (now (sent .entry)) ⌝ }
 {
-    let generates = is_registered(sent, facility::ENERGY)
-        | is_registered(sent, facility::REGULATION);
-    let is_load = is_word(sent, facility::KIND, facility::LOAD);
-    any_beyond(sent, facility::REGISTERED, 5, 0, 1) | (is_load & generates)
+    any_beyond(sent, facility::REGISTERED, 5, 0, 1) | any_mark_astray(sent)
 }
 
 pub fn capability_number(held: &[i32], sent: &[i32]) -> u8
@@ -187,12 +190,14 @@ pub fn capability_number(held: &[i32], sent: &[i32]) -> u8
 
 // ---- 9: registration
 
-// "mark for the service not 1"
+// "mark for the service not 1", or a service that the kind may not offer, whatever its marks.
 pub fn registration_number(capability: &[i32], service: u8) -> u8
     requires { ⌜ (length (now capability) ≡ 17) × (service ≤ 4) ⌝ }
     ensures { λ r. ⌜ (r ≡ registration-number (now (capability .entry)) service) × (r ≤ 9) ⌝ }
 {
-    draw_if(!is_registered(capability, service), refusal::NOT_REGISTERED)
+    let registered = is_registered(capability, service);
+    let offered = may_offer(capability[facility::KIND], service);
+    draw_if(!registered | !offered, refusal::NOT_REGISTERED)
 }
 
 // ---- 17 and 18: a standing offer over a held one

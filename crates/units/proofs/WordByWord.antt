@@ -7,14 +7,11 @@ use Prim.Native.Nat.{ℕ, suc, _+_, _-_, _<_, _≤_}
 use native.Mathlib.Omega.{arith}
 use lib.IntN.{ℤ}
 use Rattle.offer_rules.specs.Numbers.{word, beyond, any-beyond}
+use Rattle.offer_rules.proofs.Drawn.{or-false}
 
 or-assoc : (x y z : Bool) → (x || (y || z)) ≡ ((x || y) || z)
 or-assoc true y z = refl
 or-assoc false y z = refl
-
-or-false : (x : Bool) → (x || false) ≡ x
-or-false true = refl
-or-false false = refl
 
 module _ (lo hi : ℤ) (w : List ℤ) (a n : ℕ) where
   -- word i of the n words from a on

@@ -91,9 +91,9 @@ def capability_words(t):
 
 
 def capability_kinds(t):
-    """Kinds other than 1 and 2, another kind than the held one, and the marks that a load may not set."""
+    """Kinds other than 1, 2 and 3, another kind than the held one, and the marks that a load may not set."""
     t.open(3, 5)
-    for kind in (0, 3, 4, -1, 257, 258, LEAST, MOST):
+    for kind in (0, 4, 5, -1, 257, 258, 259, LEAST, MOST):
         t.call(capability(0, with_words(GENERATION, {0: kind})), 8)
     t.call(capability(0, GENERATION))
     t.call(capability(0, LOAD), 8)

@@ -4,12 +4,13 @@ Each line is written with the number that the papers give it, and each look-up a
 author read them. make.py compares them with the answers.
 """
 
-LEVEL = 1  # document 02's requests up to K1
+LEVEL = 2  # document 02's requests up to K2
 
 LIMITS = (-450000, 450000, 400000, 400001, 400002, 400003)
 
 GENERATION = (1, 1300, 800, 300, 310, 320, 200, 50, 40, 500, 600, 700, 1, 1, 1, 1, 1)
 LOAD = (2, 0, 0, 300, 310, 320, 0, 0, 0, 0, 0, 0, 0, 1, 1, 1, 0)
+LINK = (3, 900, 800, 300, 310, 320, 200, 50, 40, 500, 600, 700, 1, 0, 0, 0, 0)
 
 LEAST, MOST = -2**31, 2**31 - 1
 MARK = 0x534F42

@@ -40,7 +40,7 @@ def largest_book(t):
     t.call(total(4, 336), 1)
     t.write({2: 64, cell(64, 5, 63, 4, 1, 0): 0})
     t.call(look_up(63, 4, 336), 0, 1, 77)
-    t.write({block(63): 3})
+    t.write({block(63): 4})
     t.call(look_up(63, 4, 336), 5)
     t.call(total(4, 336), 0, 2, 14 + 77)
     t.words()

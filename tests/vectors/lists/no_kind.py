@@ -1,5 +1,5 @@
 """Number 5 for each call that draws it (3, 4, 5, 8), before any capability and from kinds that only a damaged book holds."""
-from .form import GENERATION, LEAST, LOAD, MOST, block, capability, clock, look_up, outage, standing, total, variation, with_bytes, with_words
+from .form import GENERATION, LEAST, LINK, LOAD, MOST, block, capability, clock, look_up, outage, standing, total, variation, with_bytes, with_words
 
 
 def _four(t, f, number=5, s=0):
@@ -68,7 +68,7 @@ def outage_without_a_kind(t):
 def capability_refused_leaves_no_kind(t):
     """A capability that draws 8 gives no kind: calls after it still draw 5."""
     t.open(1, 5)
-    for changes in ({0: 0}, {0: 3}, {0: -1}, {1: 100_000}, {16: 2}):
+    for changes in ({0: 0}, {0: 4}, {0: -1}, {1: 100_000}, {16: 2}):
         t.call(capability(0, with_words(GENERATION, changes)), 8)
         _four(t, 0)
     t.call(capability(0, with_words(LOAD, {12: 1})), 8)
@@ -79,20 +79,20 @@ def capability_refused_leaves_no_kind(t):
 
 
 def kinds_only_a_damaged_book_holds(t):
-    """Kinds 0, 3, -1, 2^31 - 1 and others draw 5 from each of the four calls; a total still counts the offers."""
+    """Kinds 0, 4, -1, 2^31 - 1 and others draw 5 from each of the four calls; a total still counts the offers."""
     t.open(2, 5)
     t.call(capability(0, GENERATION))
     t.call(capability(1, LOAD))
     t.call(standing(0, 0, 100, [(4000, 70)]))
     t.call(standing(1, 1, 100, [(4000, 7)]))
-    for kind in (0, 3, -1, MOST, LEAST, 4, 7, 255, 257, 258, 65537, 1 << 24, -2):
+    for kind in (0, 4, -1, MOST, LEAST, 5, 7, 255, 257, 258, 259, 65537, 1 << 24, -2):
         t.write({block(0): kind})
         _four(t, 0)
         t.call(total(0, 100), 0, 1, 70)
     t.words()
     t.write({block(0): 1})
     t.call(look_up(0, 0, 100), 0, 1, 70)
-    for kind in (0, 3, -1, MOST):
+    for kind in (0, 4, -1, MOST):
         t.write({block(1): kind})
         _four(t, 1, s=1)
         t.call(total(1, 100), 0, 1, 7)
@@ -101,13 +101,13 @@ def kinds_only_a_damaged_book_holds(t):
 
 
 def a_damaged_kind_is_not_held(t):
-    """Over a kind that is neither 1 nor 2, a capability of either kind is accepted, and then held."""
+    """Over a kind that is none of 1, 2 and 3, a capability of any kind is accepted, and then held."""
     t.open(2, 5)
     t.call(capability(0, GENERATION))
     t.call(capability(0, LOAD), 8)
-    for kind, filed, other in ((3, LOAD, GENERATION), (0, GENERATION, LOAD), (-1, LOAD, GENERATION), (MOST, GENERATION, LOAD), (LEAST, LOAD, GENERATION)):
+    for kind, filed, other in ((4, LOAD, GENERATION), (0, GENERATION, LOAD), (-1, LOAD, LINK), (MOST, LINK, LOAD), (LEAST, LOAD, GENERATION), (259, LINK, GENERATION)):
         t.write({block(0): kind})
-        t.call(capability(0, with_words(filed, {0: 3})), 8)
+        t.call(capability(0, with_words(filed, {0: 4})), 8)
         t.call(capability(0, filed))
         t.call(capability(0, other), 8)
         t.call(look_up(0, 1, 100), 19)

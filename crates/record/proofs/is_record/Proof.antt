@@ -5,7 +5,8 @@ use mathlib.Core.Bool.{Bool, true, false, not, _&&_}
 use borrow.Author.Tests.{eq-eqb, ne-eqb}
 use lib.Dec.{T, eqb}
 use lib.ListN.{length}
-use Rattle.book_rules.specs.Record.{byte, between, is-record}
+use Rattle.offer_rules.specs.Numbers.{between}
+use Rattle.book_rules.specs.Record.{byte, is-record}
 use borrow.Author.Needs.{needs}
 use Rattle.record.proofs.is_record.Statement.{statement}
 use Rattle.record.proofs.is_record.Tie as tie

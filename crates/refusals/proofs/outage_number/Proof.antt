@@ -1,5 +1,6 @@
 -- outage_number: 7, with the clock as a signed word and the most periods by kind.
 use mathlib.Core.Path.{_∙_}
+use Rattle.offer_rules.specs.Numbers.{word}
 use Rattle.book_rules.specs.Refusals.{outage-number}
 use native.Mathlib.Omega.{arith}
 use Rattle.units.proofs.Counts.{word-back}
@@ -9,8 +10,8 @@ use borrow.Author.Needs.{needs}
 use Rattle.refusals.proofs.outage_number.Statement.{statement}
 use Rattle.refusals.proofs.outage_number.Tie as tie
 
-is-word-requires : tie.Need-is-word-requires
-is-word-requires c κs = search needs
+shared-slice-copy-out-longest-outage : tie.Need-shared-slice-copy-out-longest-outage
+shared-slice-copy-out-longest-outage c = search needs
 
 longest-outage-requires : tie.Need-longest-outage-requires
 longest-outage-requires c κs = search needs
@@ -41,7 +42,7 @@ returns c =
             toZ-ofZ {w = w32} (s .fits .count),
             word-back (l .longest-outage .result) (l .longest-outage .ok),
             l .longest-outage .ensures,
-            l .before .is-word .ensures,
+            word-back (word (s .args .capability .now) 0) (l .before .longest-outage-arg .given),
           ),
       c .draw-if .ensures .1,
     )
@@ -50,7 +51,7 @@ pub outage-number-spec : {M : Type 1} → statement M
 outage-number-spec =
     tie.close
     (tie.spec
-    is-word-requires
+    shared-slice-copy-out-longest-outage
     longest-outage-requires
     cast-is-beyond
     is-beyond-requires

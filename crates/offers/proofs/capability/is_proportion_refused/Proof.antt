@@ -10,11 +10,11 @@ add-proportion-at c = search needs
 proportion-at-requires : tie.Need-proportion-at-requires
 proportion-at-requires c κs = search needs
 
-shared-slice-copy-out-is-generation : tie.Need-shared-slice-copy-out-is-generation
-shared-slice-copy-out-is-generation c = search needs
+shared-slice-copy-out-is-proportion-tested : tie.Need-shared-slice-copy-out-is-proportion-tested
+shared-slice-copy-out-is-proportion-tested c = search needs
 
-is-generation-requires : tie.Need-is-generation-requires
-is-generation-requires c κs = search needs
+is-proportion-tested-requires : tie.Need-is-proportion-tested-requires
+is-proportion-tested-requires c κs = search needs
 
 proportion-at-requires-2 : tie.Need-proportion-at-requires-2
 proportion-at-requires-2 c κs = search needs
@@ -31,8 +31,8 @@ returns c =
       c .is-none-or-above .ensures,
       c .before .proportion-at2 .ensures,
       d .before .proportion-at .ensures,
-      c .before .before .is-generation .ensures,
-      back (kind-of (s .args .capability .now)) (d .is-generation-arg .given),
+      c .before .before .is-proportion-tested .ensures,
+      back (kind-of (s .args .capability .now)) (d .is-proportion-tested-arg .given),
     )
 
 pub is-proportion-refused-spec : {M : Type 1} → statement M
@@ -41,8 +41,8 @@ is-proportion-refused-spec =
     (tie.spec
     add-proportion-at
     proportion-at-requires
-    shared-slice-copy-out-is-generation
-    is-generation-requires
+    shared-slice-copy-out-is-proportion-tested
+    is-proportion-tested-requires
     proportion-at-requires-2
     is-none-or-above-requires
     returns)

@@ -1,0 +1,115 @@
+-- Each sentence that names a kind, by the rows of the table.
+use mathlib.Core.Path.{_≡_, refl, sym, _∙_, ap, ap₂}
+use mathlib.Core.Bool.{Bool, true, false, cond, not, _&&_, _||_, false≢true}
+use Prim.Native.Nat.{ℕ, zero, suc}
+use native.Mathlib.Omega.{arith}
+use lib.Dec.{ltb}
+use lib.IntN.{ℤ, pos, negsuc}
+use lib.Signed.{ltZ}
+use borrow.Author.Tests.{lt-ltb, le-leb, lt-leb, ne-eqb}
+use Rattle.offer_rules.specs.Numbers.{eqZ, between, beyond, any-beyond}
+use Rattle.offer_rules.specs.Kinds.{Kind, kind-row, is-in, is-kind, admits}
+use Rattle.offer_rules.specs.Offer.{kind-of, is-energy, is-reserve, max-proportion, proportion, proportion-refused}
+use Rattle.offer_rules.specs.Gate.{covers, reason-met, reason-holds}
+use Rattle.offer_rules.proofs.Drawn.{and-false, and-true, or-false, or-true}
+use Rattle.offer_rules.proofs.KindRows.{each-kind}
+use Rattle.book_rules.specs.Refusals.{has-kind, outage-refused, kind-refused, is-registered, any-mark-astray, marks-refused, registration-refused}
+use Rattle.book_rules.specs.ByKind.{is-generation, is-load, is-link, is-one-of-three, ThreeKinds, HeldKinds, Outages, Marks, Registrations, Proportions, Reasons}
+
+the-three : (kind : ℤ) → is-kind kind ≡ is-one-of-three kind
+unfolding kind-row
+the-three = each-kind (λ z. is-kind z ≡ is-one-of-three z) refl refl refl (λ z none a b c. ap (λ (k : Kind). k .known) none ∙ rw (a, b, c) refl)
+
+pub three-kinds : ThreeKinds
+unfolding ThreeKinds has-kind
+three-kinds c = the-three (kind-of c)
+
+pub held-kinds : HeldKinds
+unfolding HeldKinds kind-refused has-kind
+held-kinds held kind = ap₂ (λ (sent h : Bool). not sent || (h && not (eqZ (kind-of held) kind))) (the-three kind) (the-three (kind-of held))
+
+-- ---- of a facility that has a kind
+
+data Which (kind : ℤ) : Type 0 where
+  is-1 : kind ≡ pos 1 → Which kind
+  is-2 : kind ≡ pos 2 → Which kind
+  is-3 : kind ≡ pos 3 → Which kind
+
+which : (kind : ℤ) → is-kind kind ≡ true → Which kind
+unfolding kind-row
+which =
+    each-kind (λ z. is-kind z ≡ true → Which z) (λ e. is-1 refl) (λ e. is-2 refl) (λ e. is-3 refl)
+    (λ z none a b c e. absurd (false≢true (sym (ap (λ (k : Kind). k .known) none) ∙ e)))
+
+-- No count is within 1 to 0.
+no-count : (n : ℤ) → beyond (pos 1) (pos 0) n ≡ true
+no-count (pos zero) = refl
+no-count (pos (suc n)) = rw (lt-ltb 0 (suc n) (omega arith), or-true (ltb (suc n) 1))
+no-count (negsuc n) = refl
+
+pub outages : Outages
+unfolding Outages has-kind kind-row
+outages now c m n h = go (which (kind-of c) h)
+  where
+    go : Which (kind-of c)
+        → outage-refused now c m n ≡ ((beyond (pos 0) (pos now) m || beyond (pos 1) (cond (is-load (kind-of c)) (pos 48) (pos 3)) n) || is-link (kind-of c))
+    go (is-1 e) = rw e (sym (or-false _))
+    go (is-2 e) = rw e (sym (or-false _))
+    go (is-3 e) = rw e (simp (no-count, or-true))
+
+pub marks : Marks
+unfolding Marks has-kind kind-row marks-refused any-mark-astray
+marks c h = go (which (kind-of c) h)
+  where
+    go : Which (kind-of c)
+        → marks-refused c
+        ≡ ((any-beyond (pos 0) (pos 1) c 12 5 || (is-load (kind-of c) && (is-registered c 0 || is-registered c 4)))
+        || (is-link (kind-of c) && (((is-registered c 1 || is-registered c 2) || is-registered c 3) || is-registered c 4)))
+    go (is-1 e) = rw e (simp (and-false, or-false))
+    go (is-2 e) = rw e (simp (and-false, and-true, or-false))
+    go (is-3 e) = rw e (simp (and-false, and-true, or-false))
+
+energy-alone : (s : ℕ) → between 0 0 s ≡ is-energy s
+energy-alone zero = refl
+energy-alone (suc n) = rw (lt-leb (suc n) 0 (omega arith), le-leb 0 (suc n) (omega arith), ne-eqb (suc n) 0 (λ e. omega arith)) refl
+
+pub registrations : Registrations
+unfolding Registrations has-kind kind-row
+registrations c s h low = go (which (kind-of c) h)
+  where
+    all : between 0 4 s ≡ true
+    all = rw (le-leb 0 s (omega arith), le-leb s 4 low) refl
+
+    go : Which (kind-of c) → registration-refused c s ≡ (not (is-registered c s) || (is-link (kind-of c) && not (is-energy s)))
+    go (is-1 e) = rw (e, all) refl
+    go (is-2 e) = rw (e, all) refl
+    go (is-3 e) = rw (e, energy-alone s) refl
+
+pub proportions : Proportions
+unfolding Proportions proportion-refused kind-row
+proportions c s o =
+    ap (λ (t : Bool). (t && is-reserve s) && (eqZ (proportion o) (pos 0) || ltZ (max-proportion c s) (proportion o)))
+    (each-kind (λ z. kind-row z .proportion-tested ≡ is-generation z) refl refl refl (λ z none a b c. ap (λ (k : Kind). k .proportion-tested) none ∙ sym a) (kind-of c))
+
+-- ---- 17
+
+-- Whom a reason admits: the three kinds, and no other.
+whom : (reason : ℕ) (t : ℤ → Bool) → admits (pos 1) reason ≡ t (pos 1) → admits (pos 2) reason ≡ t (pos 2) → admits (pos 3) reason ≡ t (pos 3)
+    → ((z : ℤ) → kind-row z ≡ kind-row (pos 0) → eqZ z (pos 1) ≡ false → eqZ z (pos 2) ≡ false → t z ≡ admits (pos 0) reason)
+    → (z : ℤ) → admits z reason ≡ t z
+whom reason t generation load link other =
+    each-kind (λ z. admits z reason ≡ t z) generation load link
+    (λ z none a b c. ap (λ (k : Kind). is-in (k .reasons) reason) none ∙ sym (other z none a b))
+
+pub reasons : Reasons
+unfolding Reasons reason-holds reason-met kind-row
+reasons g s p old new =
+    let z = g .kind in
+    let unknown : (z : ℤ) → kind-row z ≡ kind-row (pos 0) → is-kind z ≡ false = λ z none. ap (λ (k : Kind). k .known) none in (
+      and-true (admits z 1) ∙ whom 1 is-generation refl refl refl (λ z none a b. a) z,
+      ap (λ (t : Bool). t && covers (g .outage) p) (whom 2 is-generation refl refl refl (λ z none a b. a) z),
+      ap (λ (t : Bool). t && ((is-energy s && covers (g .surplus) p) && ltb new old)) (whom 3 is-kind refl refl refl (λ z none a b. unknown z none) z),
+      ap (λ (t : Bool). t && (covers (g .shortfall) p && ltb old new)) (whom 4 is-kind refl refl refl (λ z none a b. unknown z none) z),
+      ap (λ (t : Bool). t && (covers (g .status) p && ltb old new)) (whom 5 is-kind refl refl refl (λ z none a b. unknown z none) z),
+      ap (λ (t : Bool). t && covers (g .outage) p) (whom 6 is-load refl refl refl (λ z none a b. b) z),
+    )

@@ -1,0 +1,17 @@
+-- is_proportion_tested: the row says.
+use mathlib.Core.Path.{_∙_, ap}
+use mir.Syntax.{w32}
+use mir.Facts.{toZ-ofZ}
+use Rattle.offer_rules.specs.Kinds.{Kind, kind-row}
+use borrow.Author.Needs.{needs}
+use Rattle.kinds.proofs.is_proportion_tested.Statement.{statement}
+use Rattle.kinds.proofs.is_proportion_tested.Tie as tie
+
+kind-row-requires : tie.Need-kind-row-requires
+kind-row-requires c κs = search needs
+
+returns : tie.Need-returns
+returns c = ap (λ (k : Kind). k .proportion-tested) (c .kind-row .ensures ∙ ap kind-row (toZ-ofZ {w = w32} (c .before .fits .kind)))
+
+pub is-proportion-tested-spec : {M : Type 1} → statement M
+is-proportion-tested-spec = tie.close (tie.spec kind-row-requires returns)
