@@ -94,6 +94,7 @@ struct kind {
 static struct kind kinds[48];
 static int kind_count;
 static size_t keys = MOST_KEYS; /* fewer where instructions are counted */
+static size_t in_gate, links_in_gate; /* of these, those inside gate closure */
 
 static struct record *records_of(size_t count)
 {
@@ -318,7 +319,8 @@ static struct record last_byte_for(struct key k, int step)
 
 static void make_kinds(void)
 {
-    size_t in_gate = keys < 256 ? keys : 256, links_in_gate = keys < 128 ? keys : 128;
+    in_gate = keys < 256 ? keys : 256;
+    links_in_gate = keys < 128 ? keys : 128; /* two periods of 64 links */
     energy_keys = distinct_keys(2 * keys, 0, 1, OPEN_PERIOD, 240);
     back_keys = energy_keys + keys;
     reserve_keys = distinct_keys(keys, 1, 3, OPEN_PERIOD, 240);
@@ -458,7 +460,7 @@ static void set_up(const struct subject *who)
         file(who, variation_for(reserve_keys[i], 1));
         file(who, variation_for(back_keys[i], 0));
     }
-    for (size_t i = 0; i < (keys < 256 ? keys : 256); i++) {
+    for (size_t i = 0; i < in_gate; i++) {
         file(who, inside_gate_for(gate_keys[i], 0));
         file(who, standing_for(back_gate_keys[i], 0));
         file(who, inside_gate_for(back_gate_keys[i], 0));
@@ -482,7 +484,7 @@ static void set_up_links(const struct subject *who)
         file_in(who, who->links, standing_for(energy_keys[i], 1));
         file_in(who, who->links, variation_for(energy_keys[i], 1));
     }
-    for (size_t i = 0; i < (keys < 128 ? keys : 128); i++)
+    for (size_t i = 0; i < links_in_gate; i++)
         file_in(who, who->links, standing_for(link_gate_keys[i], 0));
 }
 

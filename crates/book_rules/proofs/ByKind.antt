@@ -1,20 +1,20 @@
 -- Each sentence that names a kind, by the rows of the table.
 use mathlib.Core.Path.{_≡_, refl, sym, _∙_, ap, ap₂}
-use mathlib.Core.Bool.{Bool, true, false, cond, not, _&&_, _||_, false≢true}
+use mathlib.Core.Bool.{Bool, true, false, not, _&&_, _||_, false≢true}
 use Prim.Native.Nat.{ℕ, zero, suc}
 use native.Mathlib.Omega.{arith}
 use lib.Dec.{ltb}
 use lib.IntN.{ℤ, pos, negsuc}
 use lib.Signed.{ltZ}
 use borrow.Author.Tests.{lt-ltb, le-leb, lt-leb, ne-eqb}
-use Rattle.offer_rules.specs.Numbers.{eqZ, between, beyond, any-beyond}
+use Rattle.offer_rules.specs.Numbers.{eqZ, between, beyond}
 use Rattle.offer_rules.specs.Kinds.{Kind, kind-row, is-in, is-kind, admits}
 use Rattle.offer_rules.specs.Offer.{kind-of, is-energy, is-reserve, max-proportion, proportion, proportion-refused}
 use Rattle.offer_rules.specs.Gate.{covers, reason-met, reason-holds}
 use Rattle.offer_rules.proofs.Drawn.{and-false, and-true, or-false, or-true}
 use Rattle.offer_rules.proofs.KindRows.{each-kind}
-use Rattle.book_rules.specs.Refusals.{has-kind, outage-refused, kind-refused, is-registered, any-mark-astray, marks-refused, registration-refused}
-use Rattle.book_rules.specs.ByKind.{is-generation, is-load, is-link, is-one-of-three, ThreeKinds, HeldKinds, Outages, Marks, Registrations, Proportions, Reasons}
+use Rattle.book_rules.specs.Refusals.{has-kind, kind-refused, any-mark-astray, marks-refused}
+use Rattle.book_rules.specs.ByKind.{is-generation, is-load, is-one-of-three, ThreeKinds, HeldKinds, Outages, Marks, Registrations, Proportions, Reasons}
 
 the-three : (kind : ℤ) → is-kind kind ≡ is-one-of-three kind
 unfolding kind-row
@@ -30,16 +30,13 @@ held-kinds held kind = ap₂ (λ (sent h : Bool). not sent || (h && not (eqZ (ki
 
 -- ---- of a facility that has a kind
 
-data Which (kind : ℤ) : Type 0 where
-  is-1 : kind ≡ pos 1 → Which kind
-  is-2 : kind ≡ pos 2 → Which kind
-  is-3 : kind ≡ pos 3 → Which kind
-
-which : (kind : ℤ) → is-kind kind ≡ true → Which kind
+by-kind : {X : Type 0} → (kind : ℤ) → is-kind kind ≡ true → (kind ≡ pos 1 → X) → (kind ≡ pos 2 → X) → (kind ≡ pos 3 → X) → X
 unfolding kind-row
-which =
-    each-kind (λ z. is-kind z ≡ true → Which z) (λ e. is-1 refl) (λ e. is-2 refl) (λ e. is-3 refl)
-    (λ z none a b c e. absurd (false≢true (sym (ap (λ (k : Kind). k .known) none) ∙ e)))
+by-kind {X} kind e generation load link =
+    each-kind (λ z. is-kind z ≡ true → (z ≡ pos 1 → X) → (z ≡ pos 2 → X) → (z ≡ pos 3 → X) → X)
+    (λ e f g h. f refl) (λ e f g h. g refl) (λ e f g h. h refl)
+    (λ z none a b c e f g h. absurd (false≢true (sym (ap (λ (k : Kind). k .known) none) ∙ e)))
+    kind e generation load link
 
 -- No count is within 1 to 0.
 no-count : (n : ℤ) → beyond (pos 1) (pos 0) n ≡ true
@@ -49,25 +46,12 @@ no-count (negsuc n) = refl
 
 pub outages : Outages
 unfolding Outages has-kind kind-row
-outages now c m n h = go (which (kind-of c) h)
-  where
-    go : Which (kind-of c)
-        → outage-refused now c m n ≡ ((beyond (pos 0) (pos now) m || beyond (pos 1) (cond (is-load (kind-of c)) (pos 48) (pos 3)) n) || is-link (kind-of c))
-    go (is-1 e) = rw e (sym (or-false _))
-    go (is-2 e) = rw e (sym (or-false _))
-    go (is-3 e) = rw e (simp (no-count, or-true))
+outages now c m n h = by-kind (kind-of c) h (λ e. rw e (sym (or-false _))) (λ e. rw e (sym (or-false _))) (λ e. rw e (simp (no-count, or-true)))
 
 pub marks : Marks
 unfolding Marks has-kind kind-row marks-refused any-mark-astray
-marks c h = go (which (kind-of c) h)
-  where
-    go : Which (kind-of c)
-        → marks-refused c
-        ≡ ((any-beyond (pos 0) (pos 1) c 12 5 || (is-load (kind-of c) && (is-registered c 0 || is-registered c 4)))
-        || (is-link (kind-of c) && (((is-registered c 1 || is-registered c 2) || is-registered c 3) || is-registered c 4)))
-    go (is-1 e) = rw e (simp (and-false, or-false))
-    go (is-2 e) = rw e (simp (and-false, and-true, or-false))
-    go (is-3 e) = rw e (simp (and-false, and-true, or-false))
+marks c h =
+    by-kind (kind-of c) h (λ e. rw e (simp (and-false, or-false))) (λ e. rw e (simp (and-false, and-true, or-false))) (λ e. rw e (simp (and-false, and-true, or-false)))
 
 energy-alone : (s : ℕ) → between 0 0 s ≡ is-energy s
 energy-alone zero = refl
@@ -75,15 +59,10 @@ energy-alone (suc n) = rw (lt-leb (suc n) 0 (omega arith), le-leb 0 (suc n) (ome
 
 pub registrations : Registrations
 unfolding Registrations has-kind kind-row
-registrations c s h low = go (which (kind-of c) h)
+registrations c s h low = by-kind (kind-of c) h (λ e. rw (e, all) refl) (λ e. rw (e, all) refl) (λ e. rw (e, energy-alone s) refl)
   where
     all : between 0 4 s ≡ true
     all = rw (le-leb 0 s (omega arith), le-leb s 4 low) refl
-
-    go : Which (kind-of c) → registration-refused c s ≡ (not (is-registered c s) || (is-link (kind-of c) && not (is-energy s)))
-    go (is-1 e) = rw (e, all) refl
-    go (is-2 e) = rw (e, all) refl
-    go (is-3 e) = rw (e, energy-alone s) refl
 
 pub proportions : Proportions
 unfolding Proportions proportion-refused kind-row

@@ -8,7 +8,7 @@ use Rattle.offer_rules.specs.Numbers.{word}
 use Rattle.book_rules.specs.Words.{put, facility-place, opening-words}
 use Rattle.book_rules.specs.Force.{Answer}
 use Rattle.book_rules.specs.Book.{book-answer, book-run}
-use Rattle.cases.specs.Records.{_at_, clock, capability-words, energy-mark, capability, link-capability, standing, ramping, standing-reserve, variation, outage, notice, look-up, look-up-reserve, total}
+use Rattle.cases.specs.Records.{_at_, clock, capability-words, energy-mark, capability-of, capability, standing-for, standing, ramping, variation, outage, notice, look-up-for, look-up, total}
 
 -- "a book of 16,224 words, all zero before opening, F 1, S 1, energy −4,500.00 to 4,500.00, others to 4,500.00"
 abbrev pub limits : List ℤ
@@ -56,9 +56,9 @@ plant = capability 1300 800
 abbrev stands : List ℕ
 stands = standing 4 (500 at 4000 ∷ (200 at 5000 ∷ []))
 
--- "Old 50.0 at 40.00, 20.0 at 50.00, gate shut, reason 4, notice 4 covers P"
-abbrev gate-shut : List (List ℕ)
-gate-shut = plant ∷ (stands ∷ (notice 4 4 4 ∷ (clock 56 ∷ [])))
+-- "Old 50.0 at 40.00, 20.0 at 50.00, gate shut, reason 4, notice 4 covers P", by a facility of this capability
+abbrev shut-for : List ℕ → List (List ℕ)
+shut-for capability = capability ∷ (stands ∷ (notice 4 4 4 ∷ (clock 56 ∷ [])))
 
 -- A variation without a pair that isn't blank.
 abbrev blank : ℕ → List ℕ
@@ -74,76 +74,77 @@ both = plant ∷ (stands ∷ (variation 4 0 (300 at 4000 ∷ []) ∷ []))
 abbrev tripped : List (List ℕ)
 tripped = clock 56 ∷ (outage 56 3 ∷ [])
 
--- A link, registered for energy; its offer with "gate shut"; and its words as only a damaged book has them: every mark set, an outage over periods 0 to 99.
+-- A link, registered for energy; and its words as only a damaged book has them: every mark set, an outage over periods 0 to 99.
 abbrev link : List ℕ
-link = link-capability 1300 800 energy-mark
-
-abbrev link-gate-shut : List (List ℕ)
-link-gate-shut = link ∷ (stands ∷ (notice 4 4 4 ∷ (clock 56 ∷ [])))
+link = capability-of (capability-words 3 1300 800 energy-mark)
 
 abbrev damaged-link : List ℤ → List ℤ
 damaged-link w = put w (facility-place 0) (capability-words 3 1300 800 (replicate 5 (pos 1)) ++ (pos 0 ∷ (pos 99 ∷ [])))
 
+-- Most rows start from the fresh book: the calls before, the last call, its answer.
+abbrev fresh : List (List ℕ) → List ℕ → Line → Case
+fresh calls call line = record { book = fresh-book; before = calls; last = call; answered = line }
+
 abbrev pub first-case : Case
-first-case = record { book = fresh-book; before = plant ∷ []; last = standing 4 (1300 at 4000 ∷ []); answered = draws 16 }
+first-case = fresh (plant ∷ []) (standing 4 (1300 at 4000 ∷ [])) (draws 16)
 
 abbrev pub cases : List Case
 cases =
     -- "Totals 130.0 against 130.0 and 80.0: 16." "70.0: passes."
     first-case
-    ∷ record { book = fresh-book; before = plant ∷ []; last = standing 4 (700 at 4000 ∷ []); answered = passes }
+    ∷ fresh (plant ∷ []) (standing 4 (700 at 4000 ∷ [])) passes
     -- "Prices 50.00, 40.00: 13." "40.00, 50.00: passes."
-    ∷ record { book = fresh-book; before = plant ∷ []; last = standing 4 (100 at 5000 ∷ (100 at 4000 ∷ [])); answered = draws 13 }
-    ∷ record { book = fresh-book; before = plant ∷ []; last = standing 4 (100 at 4000 ∷ (100 at 5000 ∷ [])); answered = passes }
+    ∷ fresh (plant ∷ []) (standing 4 (100 at 5000 ∷ (100 at 4000 ∷ []))) (draws 13)
+    ∷ fresh (plant ∷ []) (standing 4 (100 at 4000 ∷ (100 at 5000 ∷ []))) passes
     -- "50.0 at 100.00 then 0.0 at 0.00: passes." "0.0 at 50.00: 12.", alone and after another pair
-    ∷ record { book = fresh-book; before = plant ∷ []; last = standing 4 (500 at 10000 ∷ (0 at 0 ∷ [])); answered = passes }
-    ∷ record { book = fresh-book; before = plant ∷ []; last = standing 4 (0 at 5000 ∷ []); answered = draws 12 }
-    ∷ record { book = fresh-book; before = plant ∷ []; last = standing 4 (500 at 4000 ∷ (0 at 5000 ∷ [])); answered = draws 12 }
+    ∷ fresh (plant ∷ []) (standing 4 (500 at 10000 ∷ (0 at 0 ∷ []))) passes
+    ∷ fresh (plant ∷ []) (standing 4 (0 at 5000 ∷ [])) (draws 12)
+    ∷ fresh (plant ∷ []) (standing 4 (500 at 4000 ∷ (0 at 5000 ∷ []))) (draws 12)
     -- "now 55, P 4: 65 left, open." "now 56: 17 without reason." "now 120: 10."
-    ∷ record { book = fresh-book; before = plant ∷ (clock 55 ∷ []); last = variation 4 0 (300 at 4000 ∷ []); answered = passes }
-    ∷ record { book = fresh-book; before = plant ∷ (clock 56 ∷ []); last = variation 4 0 (300 at 4000 ∷ []); answered = draws 17 }
-    ∷ record { book = fresh-book; before = plant ∷ (clock 120 ∷ []); last = variation 4 0 (300 at 4000 ∷ []); answered = draws 10 }
+    ∷ fresh (plant ∷ (clock 55 ∷ [])) (variation 4 0 (300 at 4000 ∷ [])) passes
+    ∷ fresh (plant ∷ (clock 56 ∷ [])) (variation 4 0 (300 at 4000 ∷ [])) (draws 17)
+    ∷ fresh (plant ∷ (clock 120 ∷ [])) (variation 4 0 (300 at 4000 ∷ [])) (draws 10)
     -- "second pair 30.0 passes; 45.0 and 30.0: 17, the 451st tenth differs."
-    ∷ record { book = fresh-book; before = gate-shut; last = variation 4 4 (500 at 4000 ∷ (300 at 5000 ∷ [])); answered = passes }
-    ∷ record { book = fresh-book; before = gate-shut; last = variation 4 4 (450 at 4000 ∷ (300 at 5000 ∷ [])); answered = draws 17 }
+    ∷ fresh (shut-for plant) (variation 4 4 (500 at 4000 ∷ (300 at 5000 ∷ []))) passes
+    ∷ fresh (shut-for plant) (variation 4 4 (450 at 4000 ∷ (300 at 5000 ∷ []))) (draws 17)
     -- Taken back before closure: the look-up then answers the standing offer, and 19 where there is none.
-    ∷ record { book = fresh-book; before = both; last = blank 0; answered = passes }
-    ∷ record { book = fresh-book; before = both ++ (blank 0 ∷ []); last = look-up 4; answered = reads 0 1 700 }
-    ∷ record { book = fresh-book; before = varied ++ (blank 0 ∷ []); last = look-up 4; answered = draws 19 }
+    ∷ fresh both (blank 0) passes
+    ∷ fresh (both ++ (blank 0 ∷ [])) (look-up 4) (reads 0 1 700)
+    ∷ fresh (varied ++ (blank 0 ∷ [])) (look-up 4) (draws 19)
     -- Inside the gate: with reason 2, the outage covering P and prices kept; without a reason 17.
-    ∷ record { book = fresh-book; before = both ++ tripped; last = blank 2; answered = passes }
-    ∷ record { book = fresh-book; before = both ++ tripped; last = blank 0; answered = draws 17 }
-    ∷ record { book = fresh-book; before = both ++ (tripped ++ (blank 2 ∷ [])); last = look-up 4; answered = reads 0 1 700 }
-    ∷ record { book = fresh-book; before = varied ++ (tripped ++ (blank 2 ∷ [])); last = look-up 4; answered = draws 19 }
+    ∷ fresh (both ++ tripped) (blank 2) passes
+    ∷ fresh (both ++ tripped) (blank 0) (draws 17)
+    ∷ fresh (both ++ (tripped ++ (blank 2 ∷ []))) (look-up 4) (reads 0 1 700)
+    ∷ fresh (varied ++ (tripped ++ (blank 2 ∷ []))) (look-up 4) (draws 19)
     -- "blanks may stand anywhere": one blank pair before another is not all of them.
-    ∷ record { book = fresh-book; before = plant ∷ (stands ∷ (variation 4 0 (0 at 0 ∷ (300 at 4000 ∷ [])) ∷ [])); last = look-up 4; answered = reads 0 2 300 }
+    ∷ fresh (plant ∷ (stands ∷ (variation 4 0 (0 at 0 ∷ (300 at 4000 ∷ [])) ∷ []))) (look-up 4) (reads 0 2 300)
     -- What it is compared with is the standing offer: 30.0 at 45.00 against 40.00.
-    ∷ record { book = fresh-book; before = (plant ∷ (stands ∷ (variation 4 0 (300 at 4500 ∷ []) ∷ []))) ++ tripped; last = blank 2; answered = draws 17 }
+    ∷ fresh ((plant ∷ (stands ∷ (variation 4 0 (300 at 4500 ∷ []) ∷ []))) ++ tripped) (blank 2) (draws 17)
     -- "A blank standing offer still means zero MW": it is in force and counted.
-    ∷ record { book = fresh-book; before = plant ∷ (standing 4 [] ∷ []); last = look-up 4; answered = reads 0 1 0 }
-    ∷ record { book = fresh-book; before = plant ∷ (standing 4 [] ∷ []); last = total 4; answered = reads 0 1 0 }
+    ∷ fresh (plant ∷ (standing 4 [] ∷ [])) (look-up 4) (reads 0 1 0)
+    ∷ fresh (plant ∷ (standing 4 [] ∷ [])) (total 4) (reads 0 1 0)
     -- A link: "Its capability record may have mark 0 only, else 8"
-    ∷ record { book = fresh-book; before = []; last = link; answered = passes }
-    ∷ record { book = fresh-book; before = []; last = link-capability 1300 800 (replicate 4 (pos 0) ++ (pos 1 ∷ [])); answered = draws 8 }
+    ∷ fresh [] link passes
+    ∷ fresh [] (capability-of (capability-words 3 1300 800 (replicate 4 (pos 0) ++ (pos 1 ∷ [])))) (draws 8)
     -- "unlike a held 1 or 2", or 3
-    ∷ record { book = fresh-book; before = link ∷ []; last = plant; answered = draws 8 }
-    ∷ record { book = fresh-book; before = plant ∷ []; last = link; answered = draws 8 }
+    ∷ fresh (link ∷ []) plant (draws 8)
+    ∷ fresh (plant ∷ []) link (draws 8)
     -- "An outage call for it is refused with 7"
-    ∷ record { book = fresh-book; before = link ∷ (clock 56 ∷ []); last = outage 56 3; answered = draws 7 }
+    ∷ fresh (link ∷ (clock 56 ∷ [])) (outage 56 3) (draws 7)
     -- "Reasons 3, 4 and 5 are open to it; 1, 2 and 6 are not": 2 and 6 are shut to it also where a damaged book has an outage over P
-    ∷ record { book = fresh-book; before = link-gate-shut; last = variation 4 4 (500 at 4000 ∷ (300 at 5000 ∷ [])); answered = passes }
-    ∷ record { book = fresh-book; before = link-gate-shut; last = variation 4 1 (500 at 4000 ∷ (300 at 5000 ∷ [])); answered = draws 17 }
-    ∷ record { book = fresh-book; before = link-gate-shut; last = variation 4 2 (500 at 4000 ∷ (300 at 5000 ∷ [])); answered = draws 17 }
+    ∷ fresh (shut-for link) (variation 4 4 (500 at 4000 ∷ (300 at 5000 ∷ []))) passes
+    ∷ fresh (shut-for link) (variation 4 1 (500 at 4000 ∷ (300 at 5000 ∷ []))) (draws 17)
+    ∷ fresh (shut-for link) (variation 4 2 (500 at 4000 ∷ (300 at 5000 ∷ []))) (draws 17)
     ∷ record { book = damaged-link fresh-book; before = clock 56 ∷ []; last = variation 4 2 (300 at 4000 ∷ []); answered = draws 17 }
     ∷ record { book = damaged-link fresh-book; before = clock 56 ∷ []; last = variation 4 6 (300 at 4000 ∷ []); answered = draws 17 }
     -- "It offers energy only: refusal 9 also covers its offers for services 1 to 4", where a damaged book has the mark too; a look-up draws 19
-    ∷ record { book = fresh-book; before = link ∷ (stands ∷ []); last = look-up 4; answered = reads 0 1 700 }
-    ∷ record { book = wide-book; before = link ∷ []; last = standing-reserve 4 (100 at 4000 ∷ []); answered = draws 9 }
-    ∷ record { book = damaged-link wide-book; before = []; last = standing-reserve 4 (100 at 4000 ∷ []); answered = draws 9 }
-    ∷ record { book = wide-book; before = link ∷ []; last = look-up-reserve 4; answered = draws 19 }
+    ∷ fresh (link ∷ (stands ∷ [])) (look-up 4) (reads 0 1 700)
+    ∷ record { book = wide-book; before = link ∷ []; last = standing-for 1 4 (100 at 4000 ∷ []); answered = draws 9 }
+    ∷ record { book = damaged-link wide-book; before = []; last = standing-for 1 4 (100 at 4000 ∷ []); answered = draws 9 }
+    ∷ record { book = wide-book; before = link ∷ []; last = look-up-for 1 4; answered = draws 19 }
     -- Ramps bind its energy, here against 0.0 MW/min, and both maxima: 130.0 against 130.0 and 80.0.
-    ∷ record { book = fresh-book; before = link ∷ []; last = ramping 1 (standing 4 (700 at 4000 ∷ [])); answered = draws 14 }
-    ∷ record { book = fresh-book; before = link ∷ []; last = standing 4 (1300 at 4000 ∷ []); answered = draws 16 }
+    ∷ fresh (link ∷ []) (ramping 1 (standing 4 (700 at 4000 ∷ []))) (draws 14)
+    ∷ fresh (link ∷ []) (standing 4 (1300 at 4000 ∷ [])) (draws 16)
     ∷ []
 
 -- Every row of the table holds.

@@ -45,23 +45,22 @@ capability-words kind generation combined marks = pos kind ∷ (pos generation �
 abbrev pub energy-mark : List ℤ
 energy-mark = pos 1 ∷ replicate 4 (pos 0)
 
+abbrev pub capability-of : List ℤ → List ℕ
+capability-of w = record-bytes 2 0 0 (pos 0) 0 (pos 0) (pos 0) w
+
 -- A generation facility registered for energy.
 abbrev pub capability : ℕ → ℕ → List ℕ
-capability generation combined = record-bytes 2 0 0 (pos 0) 0 (pos 0) (pos 0) (capability-words 1 generation combined energy-mark)
+capability generation combined = capability-of (capability-words 1 generation combined energy-mark)
 
-abbrev pub link-capability : ℕ → ℕ → List ℤ → List ℕ
-link-capability generation combined marks = record-bytes 2 0 0 (pos 0) 0 (pos 0) (pos 0) (capability-words 3 generation combined marks)
+abbrev pub standing-for : ℕ → ℕ → List Pair → List ℕ
+standing-for service slot offer = record-bytes 3 0 service (pos slot) 0 (pos 0) (pos 0) (pair-words offer)
 
 abbrev pub standing : ℕ → List Pair → List ℕ
-standing slot offer = record-bytes 3 0 0 (pos slot) 0 (pos 0) (pos 0) (pair-words offer)
+standing = standing-for 0
 
--- The same with a ramp-up rate.
+-- A record with this ramp-up rate.
 abbrev pub ramping : ℕ → List ℕ → List ℕ
 ramping rate r = take 16 r ++ (word-bytes (pos rate) ++ drop 20 r)
-
--- For primary reserve.
-abbrev pub standing-reserve : ℕ → List Pair → List ℕ
-standing-reserve slot offer = record-bytes 3 0 1 (pos slot) 0 (pos 0) (pos 0) (pair-words offer)
 
 abbrev pub variation : ℕ → ℕ → List Pair → List ℕ
 variation period reason offer = record-bytes 4 0 0 (pos period) reason (pos 0) (pos 0) (pair-words offer)
@@ -72,11 +71,11 @@ outage minute count = record-bytes 5 0 0 (pos 0) 0 (pos minute) (pos count) []
 abbrev pub notice : ℕ → ℕ → ℕ → List ℕ
 notice kind first last = record-bytes 6 0 0 (pos 0) kind (pos first) (pos last) []
 
-abbrev pub look-up : ℕ → List ℕ
-look-up period = record-bytes 8 0 0 (pos period) 0 (pos 0) (pos 0) []
+abbrev pub look-up-for : ℕ → ℕ → List ℕ
+look-up-for service period = record-bytes 8 0 service (pos period) 0 (pos 0) (pos 0) []
 
-abbrev pub look-up-reserve : ℕ → List ℕ
-look-up-reserve period = record-bytes 8 0 1 (pos period) 0 (pos 0) (pos 0) []
+abbrev pub look-up : ℕ → List ℕ
+look-up = look-up-for 0
 
 abbrev pub total : ℕ → List ℕ
 total period = record-bytes 9 0 0 (pos period) 0 (pos 0) (pos 0) []

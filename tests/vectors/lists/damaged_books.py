@@ -1,5 +1,6 @@
 """Books whose words no list of calls could have left: what the calls answer from them, by the words that are there."""
-from .form import (GENERATION, LEAST, LOAD, MOST, block, capability, cell, clock, look_up, notice, outage, standing, total, variation, with_words, withdrawal)
+from .form import (GENERATION, LEAST, LOAD, MOST, block, capability, cell, clock, look_up, notice, outage, pairs_at, standing, total, variation,
+                   with_words, withdrawal)
 
 # Facility 0's cells for energy and slot 100 in a book of one facility and one service
 STANDING_AT, VARIATION_AT = cell(1, 1, 0, 0, 0, 100), cell(1, 1, 0, 0, 1, 100)
@@ -11,13 +12,6 @@ def _energy_book(t, now, F=1, S=1):
     t.call(capability(0, GENERATION))
     t.call(standing(0, 0, 100, [(4000, 70)]))
     t.call(clock(now))
-
-
-def _pairs_at(at, pairs):
-    """Words of all ten pairs of the cell at `at`."""
-    pairs = list(pairs) + [(0, 0)] * (10 - len(pairs))
-    return {at + 4 + i: n for i, n in enumerate(n for pair in pairs for n in pair)}
-
 
 
 def variation_stamps(t):
@@ -81,7 +75,7 @@ def negative_quantities_in_the_gate(t):
             ([(4000, 30), (5, LEAST), (4000, 40)], ((4, [(4000, 71)], 0), (3, [(4000, 69)], 0), (4, [(4000, 70)], 17), (1, [(4000, 31), (5000, 1)], 17))),
             ([(4000, LEAST)] * 10, ((4, [(1, 1)], 0), (3, [], 17), (4, [], 17), (1, [(7, 5)], 0))),
             ([(4000, -1)], ((3, [], 17), (4, [(5, 1)], 0)))):
-        t.write({**_pairs_at(STANDING_AT, pairs), VARIATION_AT: 0})
+        t.write({**pairs_at(STANDING_AT, pairs), VARIATION_AT: 0})
         quantities = sum(quantity for _, quantity in pairs)
         t.call(look_up(0, 0, 100), 0, 1, quantities)
         t.call(total(0, 100), 0, 1, quantities)
@@ -122,11 +116,11 @@ def sums_past_32_bits(t):
         t.call(standing(f, 0, 60, [(4000, 70)]))
     for quantity in (MOST, LEAST, 1 << 30, -1, 429496730):  # ten of the last are 4 above 2^32
         for f in range(7):
-            t.write(_pairs_at(cell(7, 1, f, 0, 0, 60), [(i, quantity) for i in range(10)]))
+            t.write(pairs_at(cell(7, 1, f, 0, 0, 60), [(i, quantity) for i in range(10)]))
         t.call(look_up(0, 0, 60), 0, 1, 10 * quantity)
         t.call(look_up(6, 0, 60), 0, 1, 10 * quantity)
         t.call(total(0, 60), 0, 7, 70 * quantity)
-    t.write(_pairs_at(cell(7, 1, 3, 0, 0, 60), [(0, MOST), (0, LEAST)] * 5))
+    t.write(pairs_at(cell(7, 1, 3, 0, 0, 60), [(0, MOST), (0, LEAST)] * 5))
     t.call(look_up(3, 0, 60), 0, 1, -5)
     t.words()
 
@@ -137,7 +131,7 @@ def old_total_past_32_bits(t):
     t.call(notice(3, 100, 100))
     t.call(notice(4, 100, 100))
     for pairs in ([(4000, MOST)] * 10, [(4000, MOST), (4000, MOST), (4000, 2)], [(4000, MOST), (4000, MOST), (4000, 7)], [(4000, MOST), (4000, 1)], [(4000, 1 << 30)] * 4):
-        t.write({**_pairs_at(STANDING_AT, pairs), VARIATION_AT: 0})
+        t.write({**pairs_at(STANDING_AT, pairs), VARIATION_AT: 0})
         t.call(look_up(0, 0, 100), 0, 1, sum(quantity for _, quantity in pairs))
         t.call(variation(0, 0, 100, [(4000, 1)], 4), 17)
         t.call(variation(0, 0, 100, [(4000, 800)], 4), 17)
@@ -160,7 +154,7 @@ def prices_out_of_order(t):
             ([(0, 1)] * 10, (([(0, 10)], 0), ([(0, 11)], 0), ([(0, 1), (1, 9)], 17))),
             ([(i, 1) for i in range(9, -1, -1)], (([(9, 1)], 0), ([(9, 2)], 17), ([(0, 1)], 17)))):
         for new, number in tries:
-            t.write({**_pairs_at(STANDING_AT, pairs), VARIATION_AT: 0})
+            t.write({**pairs_at(STANDING_AT, pairs), VARIATION_AT: 0})
             t.call(variation(0, 0, 100, new, 1), number)
     t.words()
 
@@ -295,7 +289,7 @@ def cells_without_a_kind(t):
     """Filled cells of a facility that has no kind: counted by totals, 5 for look-ups, and there again once it has a kind."""
     t.open(3, 5)
     for f, s, h, stamp in ((0, 2, 0, 1), (1, 2, 1, 61), (2, 2, 0, 1), (2, 2, 1, 61)):
-        t.write({cell(3, 5, f, s, h, 60): stamp, **_pairs_at(cell(3, 5, f, s, h, 60), [(3, 10 + f + h)])})
+        t.write({cell(3, 5, f, s, h, 60): stamp, **pairs_at(cell(3, 5, f, s, h, 60), [(3, 10 + f + h)])})
     t.call(total(2, 60), 0, 3, 10 + 12 + 13)
     for f in range(3):
         t.call(look_up(f, 2, 60), 5)

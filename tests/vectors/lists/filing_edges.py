@@ -1,14 +1,8 @@
 """Numbers 6 to 16 and 18 at their edges, on sound books: clock, notices, outages, capabilities, and what an offer may hold."""
-from .form import (GENERATION, LEAST, LOAD, MOST, capability, clock, look_up, notice, outage, standing, total, variation, with_bytes, with_words,
+from .form import (GENERATION, LEAST, LOAD, MOST, both, capability, clock, look_up, notice, outage, standing, total, variation, with_bytes, with_words,
                    withdrawal)
 
 LARGE = (1, 99999, 99999, 99999, 99999, 99999, 99999, 9999, 9999, 1000, 1000, 1000, 1, 1, 1, 1, 1)
-
-
-def _both(t, f, s, period, pairs, number, **more):
-    """A standing offer and a variation of the same: the same number, where the gate has no part in it."""
-    t.call(standing(f, s, period, pairs, **more), number)
-    t.call(variation(f, s, period, pairs, **more), number)
 
 
 def clock_edges(t):
@@ -116,14 +110,14 @@ def marks_by_service(t):
         t.call(capability(0, with_words(GENERATION, {12 + k: int(k == s) for k in range(5)})))
         for k in range(5):
             proportion = 1 if 1 <= k <= 3 else 0
-            _both(t, 0, k, 60 + s, [(1, 2)], 0 if k == s else 9, proportion=proportion)
+            both(t, 0, k, 60 + s, [(1, 2)], 0 if k == s else 9, proportion=proportion)
             if k != s:
                 t.call(standing(0, k, 336, [(1, 2)], proportion), 9)
             t.call(look_up(0, k, 60 + s), *((0, 2, 2) if k == s else (19,)))
     t.call(look_up(0, 0, 60), 0, 2, 2)
     t.call(capability(1, LOAD))
     for s, number in ((0, 9), (1, 0), (2, 0), (3, 0), (4, 9)):
-        _both(t, 1, s, 60, [(1, 2)], number)
+        both(t, 1, s, 60, [(1, 2)], number)
     t.words()
 
 
@@ -180,11 +174,11 @@ def limits_all_zero(t):
     t.call(capability(0, LARGE))
     for s in range(5):
         more = {'proportion': 1} if 1 <= s <= 3 else {}
-        _both(t, 0, s, 60, [(0, 5)], 0, **more)
-        _both(t, 0, s, 61, [(1, 5)], 11, **more)
-        _both(t, 0, s, 61, [(-1, 5)], 11, **more)
-        _both(t, 0, s, 61, [(0, 5), (0, 5)], 13, **more)
-        _both(t, 0, s, 61, [(0, 0)], 0, **more)
+        both(t, 0, s, 60, [(0, 5)], 0, **more)
+        both(t, 0, s, 61, [(1, 5)], 11, **more)
+        both(t, 0, s, 61, [(-1, 5)], 11, **more)
+        both(t, 0, s, 61, [(0, 5), (0, 5)], 13, **more)
+        both(t, 0, s, 61, [(0, 0)], 0, **more)
     t.words()
 
 
@@ -215,7 +209,7 @@ def prices_rise(t):
                           ({0: (5, 1), 9: (6, 1)}, 0), ({8: (5, 1), 9: (5, 1)}, 13), ({8: (5, 1), 9: (6, 1)}, 0), ([(100, 1), None], 0), ([(-1, 5), None, (1, 5)], 0),
                           ([(-5, 1), None, (-6, 1)], 13), ([(i, 1) for i in range(10)], 0), ([(9 - i, 1) for i in range(10)], 13),
                           ([(i if i < 9 else 8, 1) for i in range(10)], 13)):
-        _both(t, 0, 0, slot, pairs, number)
+        both(t, 0, 0, slot, pairs, number)
         slot += 1
     t.call(look_up(0, 0, 60), 0, 2, 4)
     t.words()
@@ -242,22 +236,22 @@ def totals_at_the_maxima(t):
         t.call(capability(0, with_words(GENERATION, {1: one, 2: two})))
         most = min(one, two)
         for pairs, number in (([(1, most)], 0), ([(1, most + 1)], 16), ([(1, most // 2), (2, most - most // 2 + 1)], 16)):
-            _both(t, 0, 0, slot, [p if p[1] else None for p in pairs], number)
+            both(t, 0, 0, slot, [p if p[1] else None for p in pairs], number)
             slot += 1
     t.call(capability(0, GENERATION))
     t.call(capability(1, LOAD))
     for f in (0, 1):
         for s, most in ((1, 300), (2, 310), (3, 320)):
-            _both(t, f, s, slot, [(1, most)], 0, proportion=1)
-            _both(t, f, s, slot + 1, [(1, most + 1)], 16, proportion=1)
-            _both(t, f, s, slot + 1, [(1, 1), (2, 1), (3, 1), (4, 1), (5, most - 3)], 16, proportion=1)
-            _both(t, f, s, slot + 2, [(1, 1), (2, 1), (3, 1), (4, 1), (5, most - 4)], 0, proportion=1)
-    _both(t, 0, 4, slot, [(1, 200)], 0)
-    _both(t, 0, 4, slot + 1, [(1, 201)], 16)
+            both(t, f, s, slot, [(1, most)], 0, proportion=1)
+            both(t, f, s, slot + 1, [(1, most + 1)], 16, proportion=1)
+            both(t, f, s, slot + 1, [(1, 1), (2, 1), (3, 1), (4, 1), (5, most - 3)], 16, proportion=1)
+            both(t, f, s, slot + 2, [(1, 1), (2, 1), (3, 1), (4, 1), (5, most - 4)], 0, proportion=1)
+    both(t, 0, 4, slot, [(1, 200)], 0)
+    both(t, 0, 4, slot + 1, [(1, 201)], 16)
     t.call(capability(0, LARGE))
-    _both(t, 0, 0, slot + 5, [(i, 9999) for i in range(9)] + [(9, 9999 + 9)], 0)
-    _both(t, 0, 0, slot + 6, [(i, 9999) for i in range(9)] + [(9, 9999 + 10)], 16)
-    _both(t, 0, 0, slot + 6, [(i, 99999) for i in range(10)], 16)
+    both(t, 0, 0, slot + 5, [(i, 9999) for i in range(9)] + [(9, 9999 + 9)], 0)
+    both(t, 0, 0, slot + 6, [(i, 9999) for i in range(9)] + [(9, 9999 + 10)], 16)
+    both(t, 0, 0, slot + 6, [(i, 99999) for i in range(10)], 16)
     t.words()
 
 

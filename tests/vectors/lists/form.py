@@ -70,6 +70,23 @@ def variation(f, s, period, pairs=(), reason=0, proportion=0, ramps=(0, 0)):
     return record(4, f, s, period, reason, proportion, ramps, w=_pairs(pairs))
 
 
+def both(t, f, s, period, pairs, number, **more):
+    """A standing offer and a variation of the same: the same number, where the gate has no part in it."""
+    t.call(standing(f, s, period, pairs, **more), number)
+    t.call(variation(f, s, period, pairs, **more), number)
+
+
+def filler(s):
+    """The least proportion that generation's offer for service s has to carry."""
+    return 1 if 1 <= s <= 3 else 0
+
+
+def pairs_at(at, pairs):
+    """Words of all ten pairs of the cell at `at`."""
+    pairs = list(pairs) + [(0, 0)] * (10 - len(pairs))
+    return {at + 4 + i: n for i, n in enumerate(n for pair in pairs for n in pair)}
+
+
 def outage(f, minute, count):
     return record(5, f, a=minute, b=count)
 

@@ -1,24 +1,8 @@
 """The import link, kind 3: its capability, outages and offers by service, the reasons open to it, readings, and damaged books; beside generation and load."""
-from .form import (GENERATION, LEAST, LINK, LOAD, MOST, block, capability, cell, clock, look_up, notice, outage, standing, total, variation, with_bytes, with_words,
-                   withdrawal)
+from .form import (GENERATION, LEAST, LINK, LOAD, MOST, block, both, capability, cell, clock, filler, look_up, notice, outage, pairs_at, standing, total,
+                   variation, with_bytes, with_words, withdrawal)
 
 BARE = (0,) * 17  # no kind, no maximum, no mark
-
-
-def _filler(s):
-    return 1 if 1 <= s <= 3 else 0
-
-
-def _both(t, f, s, period, pairs, number, **more):
-    """A standing offer and a variation of the same: the same number, where the gate has no part in it."""
-    t.call(standing(f, s, period, pairs, **more), number)
-    t.call(variation(f, s, period, pairs, **more), number)
-
-
-def _pairs_at(at, pairs):
-    """Words of all ten pairs of the cell at `at`."""
-    pairs = list(pairs) + [(0, 0)] * (10 - len(pairs))
-    return {at + 4 + i: n for i, n in enumerate(n for pair in pairs for n in pair)}
 
 
 # ---- capability
@@ -78,9 +62,9 @@ def one_service_book(t):
     for s in range(1, 5):
         t.call(capability(0, with_words(LINK, {12 + s: 1})), 8)
     t.call(capability(0, LINK))
-    _both(t, 0, 0, 60, [(1, 5)], 0)
+    both(t, 0, 0, 60, [(1, 5)], 0)
     for s in range(1, 5):
-        _both(t, 0, s, 60, [(1, 5)], 3, proportion=_filler(s))
+        both(t, 0, s, 60, [(1, 5)], 3, proportion=filler(s))
         t.call(look_up(0, s, 60), 3)
     t.call(look_up(0, 0, 60), 0, 2, 5)
     t.words()
@@ -129,8 +113,8 @@ def offers_by_service(t):
     t.call(capability(0, LINK))
     t.call(capability(1, with_words(LINK, {12: 0})))
     for s in range(5):
-        _both(t, 0, s, 60, [(1, 5)], 0 if s == 0 else 9, proportion=_filler(s))
-        _both(t, 1, s, 60, [(1, 5)], 9, proportion=_filler(s))
+        both(t, 0, s, 60, [(1, 5)], 0 if s == 0 else 9, proportion=filler(s))
+        both(t, 1, s, 60, [(1, 5)], 9, proportion=filler(s))
     t.call(total(0, 60), 0, 1, 5)
     t.words()
 
@@ -154,7 +138,7 @@ def energy_of_a_link(t):
     """A link's energy offers: numbers 10 to 13 and 18 as for any facility, at standing offer and variation."""
     t.open(1, 5)
     t.call(capability(0, LINK))
-    _both(t, 0, 0, 60, {i: (100 * i - 300, 80) for i in range(10)}, 0, ramps=(50, 40))
+    both(t, 0, 0, 60, {i: (100 * i - 300, 80) for i in range(10)}, 0, ramps=(50, 40))
     t.call(look_up(0, 0, 60), 0, 2, 800)
     t.call(standing(0, 0, 60, {i: (100 * i - 300, 80) for i in range(10)}, ramps=(50, 40)), 18)
     for slot in (-1, 336):
@@ -162,10 +146,10 @@ def energy_of_a_link(t):
     for period in (0, -1, 336):
         t.call(variation(0, 0, period, [(1, 5)]), 10)
     t.call(variation(0, 0, 61, [(1, 5)], 7), 11)
-    _both(t, 0, 0, 61, [(450001, 5)], 11)
-    _both(t, 0, 0, 61, [(1, 100000)], 11)
-    _both(t, 0, 0, 61, [(1, 0)], 12)
-    _both(t, 0, 0, 61, [(2, 1), (1, 1)], 13)
+    both(t, 0, 0, 61, [(450001, 5)], 11)
+    both(t, 0, 0, 61, [(1, 100000)], 11)
+    both(t, 0, 0, 61, [(1, 0)], 12)
+    both(t, 0, 0, 61, [(2, 1), (1, 1)], 13)
     t.call(standing(0, 0, 61, [], proportion=1), 4)
     t.call(look_up(0, 0, 61), 19)
     t.words()
@@ -178,7 +162,7 @@ def ramps_of_a_link(t):
     for up_most, down_most in ((50, 40), (0, 0), (9999, 0), (0, 9999)):
         t.call(capability(0, with_words(LINK, {7: up_most, 8: down_most})))
         for up, down in ((0, 0), (up_most, down_most), (up_most + 1, 0), (0, down_most + 1), (-1, 0), (0, -1)):
-            _both(t, 0, 0, slot, [(1, 2)], 0 if 0 <= up <= up_most and 0 <= down <= down_most else 14, ramps=(up, down))
+            both(t, 0, 0, slot, [(1, 2)], 0 if 0 <= up <= up_most and 0 <= down <= down_most else 14, ramps=(up, down))
             slot += 1
     t.words()
 
@@ -190,8 +174,8 @@ def both_maxima_of_a_link(t):
     for one, two in ((900, 800), (800, 900), (800, 800), (0, 800), (800, 0), (0, 0), (99999, 99999)):
         t.call(capability(0, with_words(LINK, {1: one, 2: two, 3: 0, 4: 0, 5: 0, 6: 0})))
         most = min(one, two)
-        _both(t, 0, 0, slot, [(1, most)] if most else [], 0)
-        _both(t, 0, 0, slot + 1, [(1, most), (2, 1)] if most else [(2, 1)], 16)
+        both(t, 0, 0, slot, [(1, most)] if most else [], 0)
+        both(t, 0, 0, slot + 1, [(1, most), (2, 1)] if most else [(2, 1)], 16)
         slot += 2
     t.words()
 
@@ -254,13 +238,13 @@ def reasons_by_kind_with_a_link(t):
             for quantity in (40, 50, 60):
                 period += 4
                 t.call(clock(30 * period - 65))
-                t.call(variation(f, s, period, [(1, 50)], 0, _filler(s)))
+                t.call(variation(f, s, period, [(1, 50)], 0, filler(s)))
                 t.call(clock(30 * period - 30))
                 for kind in (3, 4, 5):
                     t.call(notice(kind, period, period))
                 t.call(outage(f, 30 * period - 30, 1), 7 if f == 0 else 0)
                 holds = {0: False, 1: f == 1, 2: f == 1, 3: s == 0 and quantity < 50, 4: quantity > 50, 5: quantity > 50, 6: f == 2}[reason]
-                t.call(variation(f, s, period, [(1, quantity)], reason, _filler(s)), 0 if holds else 17)
+                t.call(variation(f, s, period, [(1, quantity)], reason, filler(s)), 0 if holds else 17)
                 t.call(look_up(f, s, period), 0, 2, quantity if holds else 50)
     t.words()
 
@@ -413,12 +397,12 @@ def link_marks_damaged(t):
     t.write({block(f) + 12 + s: 1 for f in range(3) for s in range(5)})
     for s in range(5):
         for f in range(3):
-            _both(t, f, s, 60, [(1, 5)], 9 if f == 0 and s > 0 else 0, proportion=_filler(s))
+            both(t, f, s, 60, [(1, 5)], 9 if f == 0 and s > 0 else 0, proportion=filler(s))
         t.call(total(s, 60), 0, *((3, 15) if s == 0 else (2, 10)))
     for mark in (0, 2, -1, 257, LEAST, MOST):
         t.write({block(0) + 12 + s: mark for s in range(5)})
         for s in range(5):
-            _both(t, 0, s, 60, [(1, 6)], 9, proportion=_filler(s))
+            both(t, 0, s, 60, [(1, 6)], 9, proportion=filler(s))
     t.call(capability(0, LINK))
     t.call(variation(0, 0, 60, [(1, 6)]))
     t.words()
@@ -430,7 +414,7 @@ def link_cells_damaged(t):
     t.call(capability(0, LINK))
     for s in (1, 2, 3, 4):
         at, varied = cell(2, 5, 0, s, 0, 60), cell(2, 5, 0, s, 1, 61)
-        t.write({at: 1, at + 1: 77, at + 2: -3, at + 3: 4, **_pairs_at(at, [(5, 10 + s), (4, -3)]), varied: 62, **_pairs_at(varied, [(MOST, MOST), (LEAST, 1)])})
+        t.write({at: 1, at + 1: 77, at + 2: -3, at + 3: 4, **pairs_at(at, [(5, 10 + s), (4, -3)]), varied: 62, **pairs_at(varied, [(MOST, MOST), (LEAST, 1)])})
         t.call(look_up(0, s, 60), 0, 1, 7 + s)
         t.call(look_up(0, s, 61), 0, 2, 1 << 31)
         t.call(look_up(0, s, 62), 19)
@@ -438,7 +422,7 @@ def link_cells_damaged(t):
         t.call(total(s, 61), 0, 1, 1 << 31)
         for mark in (0, 1):
             t.write({block(0) + 12 + s: mark})
-            _both(t, 0, s, 60, [(5, 1)], 9, proportion=_filler(s))
+            both(t, 0, s, 60, [(5, 1)], 9, proportion=filler(s))
             t.call(variation(0, s, 61, []), 9)
     t.words()
 
@@ -507,12 +491,12 @@ def load_marks_damaged(t):
     t.open(1, 5)
     t.call(capability(0, with_words(LOAD, {1: 500, 2: 400, 6: 300, 7: 5, 8: 5})))
     for s in (0, 4):
-        _both(t, 0, s, 60, [(1, 5)], 9)
+        both(t, 0, s, 60, [(1, 5)], 9)
         t.write({block(0) + 12 + s: 1})
-        _both(t, 0, s, 60, [(1, 5)], 0)
-    _both(t, 0, 0, 61, [(1, 5)], 14, ramps=(6, 0))
-    _both(t, 0, 0, 61, [(1, 401)], 16)
-    _both(t, 0, 4, 61, [(1, 301)], 16)
+        both(t, 0, s, 60, [(1, 5)], 0)
+    both(t, 0, 0, 61, [(1, 5)], 14, ramps=(6, 0))
+    both(t, 0, 0, 61, [(1, 401)], 16)
+    both(t, 0, 4, 61, [(1, 301)], 16)
     t.call(standing(0, 0, 100, [(1, 50)]))
     t.call(clock(2980))
     t.call(outage(0, 2980, 4))
@@ -531,8 +515,8 @@ def link_maxima_damaged(t):
     for word, number in ((1, 16), (2, 16), (7, 14), (8, 14)):
         for value in (-1, LEAST):
             t.write({block(0) + word: value})
-            _both(t, 0, 0, 60, [], number)
+            both(t, 0, 0, 60, [], number)
         t.write({block(0) + word: MOST})
-    _both(t, 0, 0, 60, [(i, 99999) for i in range(10)], 0, ramps=(MOST, MOST))
+    both(t, 0, 0, 60, [(i, 99999) for i in range(10)], 0, ramps=(MOST, MOST))
     t.call(look_up(0, 0, 60), 0, 2, 999_990)
     t.words()

@@ -1,12 +1,7 @@
 """Sound books over time: the paper's cases and worked run, weeks, gate closure and its reasons, notices, totals, nothing in force."""
-from .form import GENERATION, LOAD, capability, clock, look_up, notice, outage, standing, total, variation, with_words, withdrawal
+from .form import GENERATION, LOAD, capability, clock, filler, look_up, notice, outage, standing, total, variation, with_words, withdrawal
 
 PROGRAM_LIMITS = (-450000, 450000, 450000, 450000, 450000, 450000)
-
-
-def _filler(s):
-    return 1 if 1 <= s <= 3 else 0
-
 
 # Offers filed over 50.0 MW at 40.00 and 20.0 at 50.00, with the number that each draws
 TRIES = (([(4000, 500), (5000, 200)], 0), ([(4000, 500), (5000, 201)], 0), ([(4000, 499)], 0), ([(4000, 500)], 0), ([(4000, 499), (5000, 201)], 17),
@@ -66,8 +61,8 @@ def slot_a_week_later(t):
     t.open(1, 5, past=3)
     t.call(capability(0, GENERATION))
     for s in (0, 3):
-        t.call(standing(0, s, 4, [(4000, 200)], _filler(s)))
-        t.call(variation(0, s, 4, [(4000, 300)], 0, _filler(s)))
+        t.call(standing(0, s, 4, [(4000, 200)], filler(s)))
+        t.call(variation(0, s, 4, [(4000, 300)], 0, filler(s)))
         t.call(look_up(0, s, 4), 0, 2, 300)
         t.call(look_up(0, s, 340), 10)
     now = 0
@@ -79,7 +74,7 @@ def slot_a_week_later(t):
             t.call(look_up(0, s, period - 336), 10)
             t.call(look_up(0, s, period), 0, 1, 200)
             t.call(total(s, period), 0, 1, 200)
-            t.call(variation(0, s, period, [(4000, 200 + week)], 0, _filler(s)))
+            t.call(variation(0, s, period, [(4000, 200 + week)], 0, filler(s)))
             t.call(look_up(0, s, period), 0, 2, 200 + week)
             t.call(total(s, period), 0, 1, 200 + week)
             t.call(look_up(0, s, period + 336), 10)
@@ -136,7 +131,7 @@ def gate_at_65_minutes(t):
     for left, number in ((66, 0), (65, 0), (64, 17), (36, 17), (30, 17), (1, 17), (0, 10)):
         t.call(clock(30 * 100 - left))
         for s in range(5):
-            t.call(variation(0, s, 100, [(1, 67 - left if left > 64 else 2)], 0, _filler(s)), number)
+            t.call(variation(0, s, 100, [(1, 67 - left if left > 64 else 2)], 0, filler(s)), number)
         t.call(variation(0, 0, 100, [(1, 1)], 1), 10 if left == 0 else 0)
     t.words()
 
@@ -206,11 +201,11 @@ def reasons_by_kind(t):
                 for quantity in (40, 50, 60):
                     period += 1
                     t.call(clock(30 * period - 30))
-                    t.call(standing(f, s, period % 336, [(1, 50)], _filler(s)))
+                    t.call(standing(f, s, period % 336, [(1, 50)], filler(s)))
                     if reason in (2, 6):
                         t.call(outage(f, 30 * period - 30, 1))
                     holds = {0: False, 1: f == 0, 2: f == 0, 3: s == 0 and quantity < 50, 4: quantity > 50, 5: quantity > 50, 6: f == 1}[reason]
-                    t.call(variation(f, s, period, [(1, quantity)], reason, _filler(s)), 0 if holds else 17)
+                    t.call(variation(f, s, period, [(1, quantity)], reason, filler(s)), 0 if holds else 17)
     t.words()
 
 
@@ -221,7 +216,7 @@ def windows_at_their_edges(t):
     t.call(capability(1, LOAD))
     t.call(clock(30 * 100 - 50))  # minute 2,950 is in period 98: 100 starts in 50 minutes, an outage from here starts at 99
     for s in (0, 1):
-        t.call(standing(0, s, 100, [(1, 50)], _filler(s)))
+        t.call(standing(0, s, 100, [(1, 50)], filler(s)))
     t.call(standing(1, 1, 100, [(1, 50)]))
     for kind, pairs in ((3, [(1, 40)]), (4, [(1, 60)]), (5, [(1, 70)])):
         for first, last in ((99, 99), (101, 101), (0, 99), (101, 40_000_000)):

@@ -1,24 +1,14 @@
 """Variations taken back: a variation of blanks alone, with the gate open and inside it, over each thing that its cell and the standing cell may hold."""
-from .form import (GENERATION, LEAST, LOAD, MOST, block, capability, cell, clock, look_up, notice, outage, standing, total, variation, with_bytes,
-                   with_words, withdrawal)
+from .form import (GENERATION, LEAST, LOAD, MOST, block, capability, cell, clock, filler, look_up, notice, outage, pairs_at, standing, total, variation,
+                   with_bytes, with_words, withdrawal)
 
 # Facility 0's cells for energy and slot 100 in a book of one facility and one service
 STANDING_AT, VARIATION_AT = cell(1, 1, 0, 0, 0, 100), cell(1, 1, 0, 0, 1, 100)
 
 
-def _filler(s):
-    return 1 if 1 <= s <= 3 else 0
-
-
 def _back(f, s, period, reason=0):
     """What takes the variation for the period back; generation's reserve has to carry a proportion."""
-    return variation(f, s, period, [], reason, _filler(s))
-
-
-def _pairs_at(at, pairs):
-    """Words of all ten pairs of the cell at `at`."""
-    pairs = list(pairs) + [(0, 0)] * (10 - len(pairs))
-    return {at + 4 + i: n for i, n in enumerate(n for pair in pairs for n in pair)}
+    return variation(f, s, period, [], reason, filler(s))
 
 
 # ---- the gate open
@@ -29,9 +19,9 @@ def back_to_the_standing_offer(t):
     t.call(capability(0, GENERATION))
     t.call(capability(1, LOAD))
     for f, s in ((0, 0), (0, 1), (0, 2), (0, 3), (0, 4), (1, 1), (1, 2), (1, 3)):
-        t.call(standing(f, s, 60, [(4, 50)], _filler(s)))
+        t.call(standing(f, s, 60, [(4, 50)], filler(s)))
         t.words(f'before-{f}-{s}')
-        t.call(variation(f, s, 60, [(4, 20), (5, 40)], 0, _filler(s)))
+        t.call(variation(f, s, 60, [(4, 20), (5, 40)], 0, filler(s)))
         t.call(look_up(f, s, 60), 0, 2, 60)
         t.call(_back(f, s, 60))
         t.call(look_up(f, s, 60), 0, 1, 50)
@@ -47,7 +37,7 @@ def back_to_nothing(t):
     t.words('nothing filed')
     for s in range(5):
         for f in (0, 1):
-            t.call(variation(f, s, 60, [(1, 30 + f)], 0, _filler(s)))
+            t.call(variation(f, s, 60, [(1, 30 + f)], 0, filler(s)))
         t.call(total(s, 60), 0, 2, 61)
         t.call(_back(0, s, 60))
         t.call(look_up(0, s, 60), 19)
@@ -79,9 +69,9 @@ def another_weeks_variation_is_emptied(t):
         t.open(1, 5)
         t.call(capability(0, GENERATION))
         for s in (0, 2):
-            t.call(standing(0, s, 4, [(1, 9)], _filler(s)))
+            t.call(standing(0, s, 4, [(1, 9)], filler(s)))
             if filed:
-                t.call(variation(0, s, 4, [(1, 5)], 0, _filler(s)))
+                t.call(variation(0, s, 4, [(1, 5)], 0, filler(s)))
         t.call(clock(1440))
         for s in (0, 2):
             t.call(_back(0, s, 340))
@@ -135,13 +125,13 @@ def the_least_that_is_no_take_back(t):
     t.open(1, 5)
     t.call(capability(0, GENERATION))
     for s in range(5):
-        t.call(standing(0, s, 60, [(1, 9)], _filler(s)))
+        t.call(standing(0, s, 60, [(1, 9)], filler(s)))
         for place in (0, 9 if s == 0 else 4):
-            t.call(variation(0, s, 60, {place: (0, 1)}, 0, _filler(s)))
+            t.call(variation(0, s, 60, {place: (0, 1)}, 0, filler(s)))
             t.call(look_up(0, s, 60), 0, 2, 1)
             t.call(_back(0, s, 60))
             t.call(look_up(0, s, 60), 0, 1, 9)
-        t.call(standing(0, s, 60, [], _filler(s)))
+        t.call(standing(0, s, 60, [], filler(s)))
         t.call(look_up(0, s, 60), 0, 1, 0)
         t.call(total(s, 60), 0, 1, 0)
     t.words()
@@ -182,8 +172,8 @@ def what_refuses_a_take_back(t):
     t.open(2, 5)
     t.call(capability(0, GENERATION))
     for s in range(5):
-        t.call(standing(0, s, 60, [(4, 50)], _filler(s)))
-        t.call(variation(0, s, 60, [(5, 40)], 0, _filler(s)))
+        t.call(standing(0, s, 60, [(4, 50)], filler(s)))
+        t.call(variation(0, s, 60, [(5, 40)], 0, filler(s)))
     t.call(clock(100))
     t.words('refused')
     for s in range(5):
@@ -196,9 +186,9 @@ def what_refuses_a_take_back(t):
             t.call(_back(0, s, period), 10)
         for reason in (7, 255):
             t.call(_back(0, s, 60, reason), 11)
-        t.call(variation(0, s, 60, {pairs - 1: (450001, 0)}, 0, _filler(s)), 11)
+        t.call(variation(0, s, 60, {pairs - 1: (450001, 0)}, 0, filler(s)), 11)
         for place in (0, pairs - 1):
-            t.call(variation(0, s, 60, {place: (1, 0)}, 0, _filler(s)), 12)
+            t.call(variation(0, s, 60, {place: (1, 0)}, 0, filler(s)), 12)
     for ramps in ((51, 0), (0, 41), (-1, 0), (0, -1), (MOST, MOST)):
         t.call(variation(0, 0, 60, ramps=ramps), 14)
     for s, most in ((1, 500), (2, 600), (3, 700)):
@@ -218,7 +208,7 @@ def after_the_capability_shrank(t):
     t.open(1, 5)
     t.call(capability(0, GENERATION))
     for s in range(5):
-        t.call(variation(0, s, 60, [(1, 50)], 0, 100 * _filler(s), (50, 40) if s == 0 else (0, 0)))
+        t.call(variation(0, s, 60, [(1, 50)], 0, 100 * filler(s), (50, 40) if s == 0 else (0, 0)))
     t.call(capability(0, with_words(GENERATION, {12: 0, 13: 0, 14: 0, 15: 0, 16: 0})))
     for s in range(5):
         t.call(_back(0, s, 60), 9)
@@ -280,8 +270,8 @@ def _by_reason(t, f, s, period, held):
         period += 4
         t.call(clock(30 * period - 65))
         if held is not None:
-            t.call(standing(f, s, period % 336, [(1, held)] if held else [], _filler(s)))
-        t.call(variation(f, s, period, [(1, 50)], 0, _filler(s)))
+            t.call(standing(f, s, period % 336, [(1, held)] if held else [], filler(s)))
+        t.call(variation(f, s, period, [(1, 50)], 0, filler(s)))
         t.call(clock(30 * period - 30))
         if reason in (2, 6):
             t.call(_back(f, s, period, reason), 17)
@@ -444,7 +434,7 @@ def blank_variation_held(t):
     _damaged_book(t)
     for pairs in ([], [(7, 0)] * 10):
         for reason, number in ((0, 17), (3, 17), (4, 0), (5, 0), (1, 0)):
-            t.write({VARIATION_AT: 101, VARIATION_AT + 1: 3, VARIATION_AT + 2: -4, VARIATION_AT + 3: 5, **_pairs_at(VARIATION_AT, pairs)})
+            t.write({VARIATION_AT: 101, VARIATION_AT + 1: 3, VARIATION_AT + 2: -4, VARIATION_AT + 3: 5, **pairs_at(VARIATION_AT, pairs)})
             t.call(look_up(0, 0, 100), 0, 2, 0)
             t.call(total(0, 100), 0, 1, 0)
             t.call(_back(0, 0, 100, reason), number)
@@ -453,7 +443,7 @@ def blank_variation_held(t):
     t.write({VARIATION_AT: 101})
     t.call(variation(0, 0, 100, [(9000, 1)], 1))
     t.call(look_up(0, 0, 100), 0, 2, 1)
-    t.write({VARIATION_AT: 101, STANDING_AT: 0, **_pairs_at(VARIATION_AT, [])})
+    t.write({VARIATION_AT: 101, STANDING_AT: 0, **pairs_at(VARIATION_AT, [])})
     for reason in (3, 4, 5):
         t.call(_back(0, 0, 100, reason), 17)
     t.call(_back(0, 0, 100, 1))
@@ -486,9 +476,9 @@ def negative_quantities_to_go_back_to(t):
             ([(4000, 30), (9, 1), (4000, 40)], ((3, 17), (4, 17), (1, 17))),
             ([(4000, LEAST)] * 10, ((4, 17), (5, 17), (3, 0))),
             ([(4000, -1)], ((4, 17), (3, 0)))):
-        t.write({**_pairs_at(STANDING_AT, pairs), **_pairs_at(VARIATION_AT, [(4000, 60)]), VARIATION_AT: 101})
+        t.write({**pairs_at(STANDING_AT, pairs), **pairs_at(VARIATION_AT, [(4000, 60)]), VARIATION_AT: 101})
         for reason, number in tries:
-            t.write({VARIATION_AT: 101, **_pairs_at(VARIATION_AT, [(4000, 60)])})
+            t.write({VARIATION_AT: 101, **pairs_at(VARIATION_AT, [(4000, 60)])})
             t.call(_back(0, 0, 100, reason), number)
         number = tries[-1][1]
         t.call(look_up(0, 0, 100), 0, *((2, 60) if number else (1, sum(quantity for _, quantity in pairs))))
@@ -505,7 +495,7 @@ def negative_quantities_taken_back(t):
             ([(4000, LEAST)] * 10, [(9, LEAST)] * 10, ((3, 17), (4, 17), (1, 0))),
             ([(4000, -1)], [(9, 1)], ((3, 17), (4, 0)))):
         for reason, number in tries:
-            t.write({VARIATION_AT: 101, **_pairs_at(VARIATION_AT, varied), **_pairs_at(STANDING_AT, held)})
+            t.write({VARIATION_AT: 101, **pairs_at(VARIATION_AT, varied), **pairs_at(STANDING_AT, held)})
             t.call(look_up(0, 0, 100), 0, 2, sum(quantity for _, quantity in varied))
             t.call(_back(0, 0, 100, reason), number)
     t.words()
@@ -519,7 +509,7 @@ def totals_past_32_bits(t):
                          ([(4000, MOST)] * 9, [(4000, MOST)] * 10), ([(4000, MOST), (4000, 1)], [(4000, MOST), (4000, 2)]), ([], two_to_32)):
         for old, new, numbers in ((small, large, {3: 17, 4: 0, 5: 0}), (large, small, {3: 0, 4: 17, 5: 17})):
             for reason, number in numbers.items():
-                t.write({VARIATION_AT: 101, **_pairs_at(VARIATION_AT, old), **_pairs_at(STANDING_AT, new)})
+                t.write({VARIATION_AT: 101, **pairs_at(VARIATION_AT, old), **pairs_at(STANDING_AT, new)})
                 t.call(_back(0, 0, 100, reason), number)
                 t.call(look_up(0, 0, 100), 0, *((2, sum(quantity for _, quantity in old)) if number else (1, sum(quantity for _, quantity in new))))
     t.words()
@@ -532,7 +522,7 @@ def tenths_past_32_bits(t):
         base = [(4000, MOST)] * full
         for varied, held, number in ((base + [(5000, 1)], base + [(5000, 1)], 0), (base + [(5000, 1)], base + [(5001, 1)], 17), (base, base + [(5001, 1)], 0),
                                      (base + [(5000, 1)], base, 0), (base + [(4000, 1)], base + [(5000, 1)], 17)):
-            t.write({VARIATION_AT: 101, **_pairs_at(VARIATION_AT, varied), **_pairs_at(STANDING_AT, held)})
+            t.write({VARIATION_AT: 101, **pairs_at(VARIATION_AT, varied), **pairs_at(STANDING_AT, held)})
             t.call(_back(0, 0, 100, 1), number)
             t.call(look_up(0, 0, 100), 0, *((2, sum(quantity for _, quantity in varied)) if number else (1, sum(quantity for _, quantity in held))))
     t.words()
@@ -544,7 +534,7 @@ def prices_out_of_order_to_go_back_to(t):
     for varied, held, number in (([(4000, 5), (3000, 5)], [(4000, 5), (3000, 6)], 0), ([(4000, 10)], [(4000, 5), (3000, 5)], 17),
                                  ([(4000, 10)], [(4000, 5), (4000, 5)], 0), ([(MOST, 5)], [(MOST, 4), (LEAST, 1)], 17), ([(MOST, 5)], [(MOST, 4)], 0),
                                  ([(4000, 5)], [(9000, 0), (4000, 5), (1, 0)], 0), ([(9000, 0), (4000, 5)], [(4000, 5)], 0)):
-        t.write({VARIATION_AT: 101, **_pairs_at(VARIATION_AT, varied), **_pairs_at(STANDING_AT, held)})
+        t.write({VARIATION_AT: 101, **pairs_at(VARIATION_AT, varied), **pairs_at(STANDING_AT, held)})
         t.call(_back(0, 0, 100, 1), number)
         t.call(look_up(0, 0, 100), 0, *((2, sum(quantity for _, quantity in varied)) if number else (1, sum(quantity for _, quantity in held))))
     t.words()
@@ -583,7 +573,7 @@ def maxima_below_nothing(t):
     t.open(1, 5)
     t.call(capability(0, GENERATION))
     for s in range(5):
-        t.call(variation(0, s, 60, [(1, 5)], 0, _filler(s)))
+        t.call(variation(0, s, 60, [(1, 5)], 0, filler(s)))
     for word, s, number in ((1, 0, 16), (2, 0, 16), (3, 1, 16), (4, 2, 16), (5, 3, 16), (6, 4, 16), (7, 0, 14), (8, 0, 14), (9, 1, 15), (10, 2, 15), (11, 3, 15)):
         for value in (-1, LEAST):
             t.write({block(0) + word: value})
