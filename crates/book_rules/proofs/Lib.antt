@@ -1,6 +1,7 @@
 -- Proofs of the claims in specs/Claims and specs/ContractedRun, from the bottom up.
 pub mod Parts
 pub mod Calls
+pub mod Cells
 pub mod Rules
 pub mod Places
 pub mod Filings

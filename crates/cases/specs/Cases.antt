@@ -1,11 +1,11 @@
--- The cases marked (p), and those of a variation taken back and of a link, as one table with one statement.
+-- The cases marked (p), and those of a variation taken back, of a link and of a fresh offer, as one table with one statement.
 use mathlib.Core.Path.{_≡_}
 use mathlib.Core.List.{List, [], _∷_, _++_}
-use Prim.Native.Nat.{ℕ}
+use Prim.Native.Nat.{ℕ, _+_}
 use lib.IntN.{ℤ, pos, negsuc}
 use lib.ListN.{getD, replicate}
 use Rattle.offer_rules.specs.Numbers.{word}
-use Rattle.book_rules.specs.Words.{put, facility-place, opening-words}
+use Rattle.book_rules.specs.Words.{part, put, facility-place, cell-place, standing-half, standing-stamp, opening-words}
 use Rattle.book_rules.specs.Force.{Answer}
 use Rattle.book_rules.specs.Book.{book-answer, book-run}
 use Rattle.cases.specs.Records.{_at_, clock, capability-words, energy-mark, capability-of, capability, standing-for, standing, ramping, variation, outage, notice, look-up-for, look-up, total}
@@ -81,6 +81,13 @@ link = capability-of (capability-words 3 1300 800 energy-mark)
 abbrev damaged-link : List ℤ → List ℤ
 damaged-link w = put w (facility-place 0) (capability-words 3 1300 800 (replicate 5 (pos 1)) ++ (pos 0 ∷ (pos 99 ∷ [])))
 
+-- A standing cell of slot 4 with these words 2 and 3, as a host wrote them; a highest ramp up of 2,000.0 MW/min.
+abbrev damaged-cell : ℤ → ℤ → List ℤ
+damaged-cell ramps minute = put fresh-book (cell-place 1 1 0 0 standing-half 4) (pos standing-stamp ∷ (pos 0 ∷ (ramps ∷ (minute ∷ []))))
+
+abbrev damaged-maximum : List ℤ
+damaged-maximum = put (book-run fresh-book (plant ∷ [])) (facility-place 0 + 7) (pos 20000 ∷ [])
+
 -- Most rows start from the fresh book: the calls before, the last call, its answer.
 abbrev fresh : List (List ℕ) → List ℕ → Line → Case
 fresh calls call line = record { book = fresh-book; before = calls; last = call; answered = line }
@@ -109,7 +116,7 @@ cases =
     ∷ fresh (shut-for plant) (variation 4 4 (450 at 4000 ∷ (300 at 5000 ∷ []))) (draws 17)
     -- Taken back before closure: the look-up then answers the standing offer, and 19 where there is none.
     ∷ fresh both (blank 0) passes
-    ∷ fresh (both ++ (blank 0 ∷ [])) (look-up 4) (reads 0 1 700)
+    ∷ fresh (both ++ (blank 0 ∷ [])) (look-up 4) (reads 0 3 700)
     ∷ fresh (varied ++ (blank 0 ∷ [])) (look-up 4) (draws 19)
     -- Inside the gate: with reason 2, the outage covering P and prices kept; without a reason 17.
     ∷ fresh (both ++ tripped) (blank 2) passes
@@ -117,11 +124,11 @@ cases =
     ∷ fresh (both ++ (tripped ++ (blank 2 ∷ []))) (look-up 4) (reads 0 1 700)
     ∷ fresh (varied ++ (tripped ++ (blank 2 ∷ []))) (look-up 4) (draws 19)
     -- "blanks may stand anywhere": one blank pair before another is not all of them.
-    ∷ fresh (plant ∷ (stands ∷ (variation 4 0 (0 at 0 ∷ (300 at 4000 ∷ [])) ∷ []))) (look-up 4) (reads 0 2 300)
+    ∷ fresh (plant ∷ (stands ∷ (variation 4 0 (0 at 0 ∷ (300 at 4000 ∷ [])) ∷ []))) (look-up 4) (reads 0 4 300)
     -- What it is compared with is the standing offer: 30.0 at 45.00 against 40.00.
     ∷ fresh ((plant ∷ (stands ∷ (variation 4 0 (300 at 4500 ∷ []) ∷ []))) ++ tripped) (blank 2) (draws 17)
     -- "A blank standing offer still means zero MW": it is in force and counted.
-    ∷ fresh (plant ∷ (standing 4 [] ∷ [])) (look-up 4) (reads 0 1 0)
+    ∷ fresh (plant ∷ (standing 4 [] ∷ [])) (look-up 4) (reads 0 3 0)
     ∷ fresh (plant ∷ (standing 4 [] ∷ [])) (total 4) (reads 0 1 0)
     -- A link: "Its capability record may have mark 0 only, else 8"
     ∷ fresh [] link passes
@@ -138,15 +145,42 @@ cases =
     ∷ record { book = damaged-link fresh-book; before = clock 56 ∷ []; last = variation 4 2 (300 at 4000 ∷ []); answered = draws 17 }
     ∷ record { book = damaged-link fresh-book; before = clock 56 ∷ []; last = variation 4 6 (300 at 4000 ∷ []); answered = draws 17 }
     -- "It offers energy only: refusal 9 also covers its offers for services 1 to 4", where a damaged book has the mark too; a look-up draws 19
-    ∷ fresh (link ∷ (stands ∷ [])) (look-up 4) (reads 0 1 700)
+    ∷ fresh (link ∷ (stands ∷ [])) (look-up 4) (reads 0 3 700)
     ∷ record { book = wide-book; before = link ∷ []; last = standing-for 1 4 (100 at 4000 ∷ []); answered = draws 9 }
     ∷ record { book = damaged-link wide-book; before = []; last = standing-for 1 4 (100 at 4000 ∷ []); answered = draws 9 }
     ∷ record { book = wide-book; before = link ∷ []; last = look-up-for 1 4; answered = draws 19 }
     -- Ramps bind its energy, here against 0.0 MW/min, and both maxima: 130.0 against 130.0 and 80.0.
     ∷ fresh (link ∷ []) (ramping 1 (standing 4 (700 at 4000 ∷ []))) (draws 14)
     ∷ fresh (link ∷ []) (standing 4 (1300 at 4000 ∷ [])) (draws 16)
+    -- "3 for standing and 4 for variation while now minus that minute is below 5": 4 minutes after acceptance, and 5
+    ∷ fresh (plant ∷ (clock 10 ∷ (stands ∷ (clock 14 ∷ [])))) (look-up 4) (reads 0 3 700)
+    ∷ fresh (plant ∷ (clock 10 ∷ (stands ∷ (clock 15 ∷ [])))) (look-up 4) (reads 0 1 700)
+    ∷ fresh (both ++ (clock 4 ∷ [])) (look-up 4) (reads 0 4 300)
+    ∷ fresh (both ++ (clock 5 ∷ [])) (look-up 4) (reads 0 2 300)
+    -- A variation filed again is fresh again; a standing offer draws 18, whatever its minute, and 18 leaves the minute.
+    ∷ fresh (varied ++ (clock 5 ∷ varied)) (look-up 4) (reads 0 4 300)
+    ∷ fresh (plant ∷ (stands ∷ (clock 5 ∷ []))) stands (draws 18)
+    ∷ fresh (plant ∷ (stands ∷ (clock 5 ∷ (stands ∷ [])))) (look-up 4) (reads 0 1 700)
+    -- After a take-back the standing offer's own minute counts.
+    ∷ fresh (plant ∷ (stands ∷ (clock 5 ∷ (variation 4 0 (300 at 4000 ∷ []) ∷ (blank 0 ∷ []))))) (look-up 4) (reads 0 1 700)
+    -- A damaged minute later than now is below 5, and one far before it isn't.
+    ∷ record { book = damaged-cell (pos 0) (pos 1000); before = plant ∷ []; last = look-up 4; answered = reads 0 3 0 }
+    ∷ record { book = damaged-cell (pos 0) (negsuc 2147483647); before = plant ∷ []; last = look-up 4; answered = reads 0 1 0 }
+    -- 14 "also covers a ramp above 9,999", where only a damaged maximum lets one come
+    ∷ record { book = damaged-maximum; before = []; last = ramping 9999 stands; answered = passes }
+    ∷ record { book = damaged-maximum; before = []; last = ramping 10000 stands; answered = draws 14 }
+    -- "The book's version, head word 1, becomes 2": a book of version 1 is refused.
+    ∷ record { book = put fresh-book 1 (pos 1 ∷ []); before = []; last = plant; answered = draws 1 }
     ∷ []
 
 -- Every row of the table holds.
 unfoldable pub EveryCase : Type 0
 EveryCase = (i : ℕ) → answer-in (getD cases i first-case) ≡ getD cases i first-case .answered
+
+-- Words 2 and 3 of a look-up of period 4: as they were filed, and "quotient and remainder rounded toward zero" of −12,345.
+abbrev ramps-shown : List ℤ → List (List ℕ) → List ℤ
+ramps-shown w before = part 2 2 (book-answer (book-run w before) (look-up 4) .words)
+
+unfoldable pub RampsShown : Type 0
+RampsShown = (ramps-shown damaged-maximum (ramping 7 stands ∷ []) ≡ pos 7 ∷ (pos 0 ∷ []))
+    × (ramps-shown (damaged-cell (negsuc 12344) (pos 0)) (plant ∷ []) ≡ negsuc 0 ∷ (negsuc 2344 ∷ []))

@@ -22,9 +22,10 @@ records =
     ∷ (look-up 340
     ∷ []))))))))
 
+-- "In document 01's run the third line becomes 0 3 700 and the fifth 0 4 300" (document 02).
 abbrev pub lines : List Line
 lines =
-    reads 0 0 0 ∷ (reads 0 0 0 ∷ (reads 0 1 700 ∷ (reads 0 0 0 ∷ (reads 0 2 300 ∷ (reads 0 1 300 ∷ (reads 10 0 0 ∷ (reads 0 0 0 ∷ (reads 0 1 700 ∷ []))))))))
+    reads 0 0 0 ∷ (reads 0 0 0 ∷ (reads 0 3 700 ∷ (reads 0 0 0 ∷ (reads 0 4 300 ∷ (reads 0 1 300 ∷ (reads 10 0 0 ∷ (reads 0 0 0 ∷ (reads 0 1 700 ∷ []))))))))
 
 unfoldable pub RunOfBook : Type 0
 RunOfBook = map line-of (book-answers fresh-book records) ≡ lines

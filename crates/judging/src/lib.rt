@@ -14,7 +14,7 @@ ghost use Rattle.judging.specs.Usable.{Usable};
 use cells::held_standing;
 use cells::in_force;
 use cells::is_nothing;
-use cells::offer_of;
+use cells::is_same_offer;
 use cells::pairs_of;
 use gate::Grounds;
 use gate::Window;
@@ -139,7 +139,8 @@ pub fn admitted_standing(book: &[i32], f: usize, service: u8, slot: usize, offer
     if is_nothing(held) {
         return 0;
     }
-    refusals::revision_number(clock(book), slot as u64, offer_of(book, held), offer)
+    let same = is_same_offer(book, held, offer);
+    refusals::revision_number(clock(book), slot as u64, same)
 }
 
 // ---- the gate

@@ -9,14 +9,15 @@ use lib.IntN.{ℤ}
 use borrow.Author.Tests.{ne-eqb}
 use Rattle.offer_rules.specs.Numbers.{toNat, word, zeros, _then_}
 use Rattle.offer_rules.specs.Time.{slot-refused, period-refused}
-use Rattle.offer_rules.specs.Offer.{pairs, all-blank}
+use Rattle.offer_rules.specs.Offer.{pairs, accepted-at, all-blank}
 use Rattle.units.proofs.Chains.{then-none, then-drawn}
-use Rattle.book_rules.specs.Record.{call-of, facility-of, service-of, period-word, reason-of, offer-in}
-use Rattle.book_rules.specs.Words.{part, clock-place, facility-place, cell, holding}
+use Rattle.book_rules.specs.Record.{call-of, facility-of, service-of, period-word, reason-of, offer-in, has-stray}
+use Rattle.book_rules.specs.Words.{part, clock-place, facility-place, cell, ramps-fit, holding}
 use Rattle.book_rules.specs.Force.{plain, variation-made}
 use Rattle.book_rules.specs.Refusals.{judge, admission-number, admitted-standing, admitted-variation, standing-number, variation-number}
-use Rattle.book_rules.specs.Book.{book-view, book-accept}
-use Rattle.book_rules.proofs.Calls.{judge-standing, judge-variation}
+use Rattle.book_rules.specs.Book.{facilities-in, services-in, book-view, book-accept}
+use Rattle.book_rules.proofs.Calls.{named, judge-standing, judge-variation}
+use Rattle.book_rules.proofs.Rules.{admitted-standing-fits, admitted-variation-fits}
 use Rattle.judging.specs.Tested.{Tested}
 use Rattle.judging.proofs.Answering.{Answers, refused, filed}
 
@@ -50,12 +51,23 @@ module _ (w : List ℤ) (b : List ℕ) where
   unfolding variation-number book-view
   variation-parts c = judge-variation (book-view w) b c
 
+-- An offer that draws none has ramps that its cell gives back.
+module _ (w : List ℤ) (b : List ℕ) (t : Tested w b) where
+  none-stray : has-stray b ≡ false
+  none-stray = named (facilities-in w) (services-in w) b (t .is-taken) .none-stray
+
+  pub standing-ramps : call-of b ≡ 3 → (k n : ℕ) → n ≡ admitted-standing (book-view w) (facility-of b) (service-of b) k (offer-in b) → n ≡ 0 → ramps-fit (offer-in b) ≡ true
+  standing-ramps c k n e z = admitted-standing-fits (book-view w) b none-stray k c (sym e ∙ z)
+
+  pub variation-ramps : call-of b ≡ 4 → (p reason n : ℕ) → n ≡ admitted-variation (book-view w) (facility-of b) (service-of b) p reason (offer-in b) → n ≡ 0 → ramps-fit (offer-in b) ≡ true
+  variation-ramps c p reason n e z = admitted-variation-fits (book-view w) b none-stray p reason c (sym e ∙ z)
+
 -- A variation's cell: empty where its pairs are all blank, else stamped.
-module _ (stamp : ℕ) (o : List ℤ) where
-  pub empty-cell : all-blank (pairs o) ≡ true → cell 0 (zeros 23) ≡ holding stamp (variation-made o)
+module _ (stamp now : ℕ) (o : List ℤ) where
+  pub empty-cell : all-blank (pairs o) ≡ true → cell 0 (accepted-at 0 (zeros 23)) ≡ holding stamp (variation-made now o)
   unfolding cell holding variation-made
   empty-cell h = rw h
 
-  pub stamped-cell : all-blank (pairs o) ≡ false → cell stamp o ≡ holding stamp (variation-made o)
+  pub stamped-cell : all-blank (pairs o) ≡ false → cell stamp (accepted-at now o) ≡ holding stamp (variation-made now o)
   unfolding holding variation-made
   stamped-cell h = rw h

@@ -8,13 +8,14 @@ use mir.Syntax.{w32}
 use mir.Facts.{toZ-ofZ}
 use Rattle.offer_rules.specs.Numbers.{toNat, word}
 use Rattle.offer_rules.proofs.Periods.{period-is}
-use Rattle.book_rules.specs.Record.{service-of, period-word}
+use Rattle.book_rules.specs.Record.{facility-of, service-of, period-word, reason-of, offer-in}
 use Rattle.book_rules.specs.Words.{clock-place}
-use Rattle.book_rules.specs.Book.{file-variation}
+use Rattle.book_rules.specs.Refusals.{admitted-variation}
+use Rattle.book_rules.specs.Book.{file-variation, book-view}
 use Rattle.book_rules.proofs.Calls.{length-offer}
 use Rattle.book_rules.proofs.OneCall.{accept-variation}
 use Rattle.book_rules.proofs.Rules.{admitted}
-use Rattle.writing.proofs.OfferParts.{judged, variation-parts}
+use Rattle.writing.proofs.OfferParts.{judged, variation-parts, variation-ramps}
 
 -- The period as a count, and that it has passed 10.
 count : (c : tie.After-nat) → c .nat .result ≡ toNat (period-word (c .before .before .before .before .before .before .args .bytes .now))
@@ -24,6 +25,13 @@ period-in : (s : tie.Start) → toNat (period-word (s .args .bytes .now)) < 4000
 period-in s =
     let h = period-is (toNat (word (s .args .book .now) clock-place)) (period-word (s .args .bytes .now)) (admitted _ _ _ (s .pre .is-admitted)) .2 in
     omega (arith, h, s .pre .place .tested .usable .timely)
+
+-- The number that the variation draws.
+drawn : (c : tie.After-admitted-variation) → let b = c .before .before .before .before .before .before .before .before .before .before .before .before .before .args .bytes .now in
+    c .admitted-variation .result
+    ≡ admitted-variation (book-view (c .before .before .before .before .before .before .before .before .before .before .before .before .before .args .book .now)) (facility-of b) (service-of b) (toNat (period-word b)) (reason-of b) (offer-in b)
+drawn c =
+    rw (c .admitted-variation .ensures .0, c .before .before .before .before .before .before .before .before .before .before .wide .ensures, count (c .before .before .before .before .before .before .before), c .before .before .before .before .before .read-offer .ensures)
 
 shared-slice-read-wide : tie.Need-shared-slice-read-wide
 shared-slice-read-wide c = search needs
@@ -64,8 +72,14 @@ slice-aggregate-file-variation c = search needs
 file-variation-requires : tie.Need-file-variation-requires
 file-variation-requires c κs =
     let s = c .before .before .before .before .before .before .before .before .before .before .before .before .before .before .before in
-    rw (c .before .before .before .before .before .before .before .before .before .before .before .before .wide .ensures, count (c .before .before .before .before .before .before .before .before .before), c .before .before .before .before .before .before .before .read-offer .ensures)
-    (s .pre .place .tested .usable, s .pre .place .facility-in, s .pre .place .service-in, omega (arith, period-in s), length-offer (s .args .bytes .now))
+    rw (c .before .before .before .before .before .before .before .before .before .before .before .before .wide .ensures, count (c .before .before .before .before .before .before .before .before .before), c .before .before .before .before .before .before .before .read-offer .ensures) (
+      s .pre .place .tested .usable,
+      s .pre .place .facility-in,
+      s .pre .place .service-in,
+      omega (arith, period-in s),
+      length-offer (s .args .bytes .now),
+      variation-ramps (s .args .book .now) (s .args .bytes .now) (s .pre .place .tested) (s .pre .place .call-is) (toNat (period-word (s .args .bytes .now))) (reason-of (s .args .bytes .now)) (c .before .before .admitted-variation .result) (drawn (c .before .before)),
+    )
 
 same-length : tie.Need-same-length
 same-length c = search needs
@@ -82,7 +96,7 @@ returns c =
     let b = s .args .bytes .now in
     let call = s .pre .place .call-is in
     rw (x .ensures .0, x .ensures .1)
-    (judged w b (s .pre .place .tested) _ _ (variation-parts w b call) 4 call (omega arith) (s .pre .is-admitted) (n .result) (rw (n .ensures .0, f .ensures, count p, o .ensures))
+    (judged w b (s .pre .place .tested) _ _ (variation-parts w b call) 4 call (omega arith) (s .pre .is-admitted) (n .result) (drawn (c .before .before .before .before))
     (file-variation w (f .result) (service-of b) (p .nat .result) (o .last .1 .0))
     (rw (f .ensures, count p, o .ensures) (sym (accept-variation w b call))))
 

@@ -1,0 +1,151 @@
+-- A cell written and read back: refusals 4 and 14 leave no ramps that word 2 doesn't give back.
+use mathlib.Core.Path.{_≡_, refl, sym, _∙_, ap, ap₂}
+use mathlib.Core.Bool.{Bool, true, false, cond, not, _&&_, _||_, true≢false}
+use mathlib.Core.List.{List, [], _∷_}
+use mathlib.Core.Option.{Option, none, some}
+use mathlib.Core.Logic.{_≢_, _⊎_, inl, inr}
+use Prim.Native.Nat.{ℕ, zero, suc, _+_, _*_, _-_, _/_, _%_, _≤_, _<_}
+use native.Mathlib.Omega.{arith}
+use lib.Dec.{leb, ltb, eqb}
+use lib.IntN.{ℤ, pos, negsuc, _+ℤ_, _*ℤ_}
+use lib.Signed.{quotZ, remZ, ltZ}
+use lib.ListN.{length, getD, drop, length-drop}
+use lib.Seq.{getD-drop}
+use borrow.Author.Tests.{eq-eqb, ne-eqb, eqb-true, lt-leb, not-true, not-false}
+use Rattle.offer_rules.specs.Numbers.{toNat, word, beyond, any-beyond, draw, _then_}
+use Rattle.offer_rules.specs.Offer.{pairs, Held, accepted-at, all-blank, ramp-beyond, ramp-refused, offer-number}
+use Rattle.offer_rules.proofs.Drawn.{and-left, and-right, and-false, or-left, or-right, or-false, then-zero, draw-zero}
+use Rattle.offer_rules.proofs.Periods.{within}
+use Rattle.book_rules.specs.Record.{byte, word-at, signed, call-of, service-of, offer-in, used-by-offer, used, any-stray, has-stray}
+use Rattle.book_rules.specs.Words.{cell, cell-held, holding, ramps-fit, variation-stamp}
+use Rattle.book_rules.specs.Force.{variation-made}
+use Rattle.book_rules.specs.Book.{held}
+
+-- ---- ramps that are not sent are zero
+
+-- Where no byte is stray, a byte that isn't used is zero.
+unused-zero : (f : ℕ → Bool) (i : ℕ) (l : List ℕ) → any-stray f i l ≡ false → (k : ℕ) → f (i + k) ≡ false → getD l k 0 ≡ 0
+unfolding any-stray
+unused-zero f i [] e k u = refl
+unused-zero f i (x ∷ l) e zero u = go (eqb x 0) refl (or-left (not (eqb x 0) && not (f i)) (any-stray f (suc i) l) e)
+  where
+    go : (t : Bool) → eqb x 0 ≡ t → (not t && not (f i)) ≡ false → x ≡ 0
+    go true h e = eqb-true x 0 h
+    go false h e = absurd (true≢false (sym (ap (λ (j : ℕ). not (f j)) (omega arith) ∙ ap not u) ∙ e))
+unused-zero f i (x ∷ l) e (suc k) u =
+    unused-zero f (suc i) l (or-right (not (eqb x 0) && not (f i)) (any-stray f (suc i) l) e) k (ap f (omega arith) ∙ u)
+
+-- "An offer for service 0 uses both ramps": no other does.
+no-ramps : (s i : ℕ) → s ≢ 0 → 16 ≤ i → i ≤ 23 → used-by-offer s i ≡ false
+unfolding used-by-offer
+no-ramps s i n a z =
+    rw (ne-eqb s 0 n, lt-leb i 15 (omega arith), lt-leb 32 i (omega arith), and-false (leb 14 i), and-false (ltb s 4))
+
+module _ (b : List ℕ) (none-stray : has-stray b ≡ false) (call : (call-of b ≡ 3) ⊎ (call-of b ≡ 4)) (other : service-of b ≢ 0) where
+  ramp-byte : (i : ℕ) → 16 ≤ i → i ≤ 23 → byte b i ≡ 0
+  unfolding has-stray
+  ramp-byte i a z = go call
+    where
+      at : (k : ℕ) → used k (service-of b) i ≡ false → call-of b ≡ k → byte b i ≡ 0
+      at k u e =
+          let j : 6 + (i - 6) ≡ i = omega arith in
+          sym (getD-drop 6 b (i - 6) 0 ∙ ap (byte b) j)
+          ∙ unused-zero (used (call-of b) (service-of b)) 6 (drop 6 b) none-stray (i - 6) (ap₂ (λ (m n : ℕ). used m (service-of b) n) e j ∙ u)
+
+      go : (call-of b ≡ 3) ⊎ (call-of b ≡ 4) → byte b i ≡ 0
+      go (inl e) = at 3 (unfold used in rw (lt-leb i 11 (omega arith), no-ramps (service-of b) i other a z) (or-false (leb 6 i && false) ∙ and-false (leb 6 i))) e
+      go (inr e) = at 4 (unfold used in rw (lt-leb i 12 (omega arith), no-ramps (service-of b) i other a z) (or-false (leb 6 i && false) ∙ and-false (leb 6 i))) e
+
+  ramp-zero : (i : ℕ) → 16 ≤ i → i ≤ 20 → word-at b i ≡ pos 0
+  unfolding word-at signed
+  ramp-zero i a z =
+      rw (ramp-byte i a (omega arith), ramp-byte (i + 1) (omega arith) (omega arith), ramp-byte (i + 2) (omega arith) (omega arith), ramp-byte (i + 3) (omega arith) (omega arith))
+
+  ramps-unsent : ramps-fit (offer-in b) ≡ true
+  unfolding offer-in any-beyond
+  ramps-unsent = rw (ramp-zero 16 (omega arith) (omega arith), ramp-zero 20 (omega arith) (omega arith))
+
+-- ---- an energy offer's ramps
+
+ramp-within : (maximum ramp : ℤ) → ramp-beyond maximum ramp ≡ false → beyond (pos 0) (pos 9999) ramp ≡ false
+unfolding ramp-beyond
+ramp-within maximum ramp e =
+    let t = or-left (beyond (pos 0) maximum ramp) (ltZ (pos 9999) ramp) e in
+    rw (or-left (ltZ ramp (pos 0)) (ltZ maximum ramp) t, or-right (beyond (pos 0) maximum ramp) (ltZ (pos 9999) ramp) e)
+
+ramps-sent : (c : List ℤ) (b : List ℕ) → ramp-refused c 0 (offer-in b) ≡ false → ramps-fit (offer-in b) ≡ true
+unfolding offer-in ramp-refused any-beyond
+ramps-sent c b e =
+    rw (
+      ramp-within _ _ (or-left (ramp-beyond (word c 7) (word-at b 16)) (ramp-beyond (word c 8) (word-at b 20)) e),
+      ramp-within _ _ (or-right (ramp-beyond (word c 7) (word-at b 16)) (ramp-beyond (word c 8) (word-at b 20)) e),
+    )
+
+-- ---- an offer that passes 4 and 11 to 16
+
+fourteen : (limits c : List ℤ) (s reason : ℕ) (o : List ℤ) → offer-number limits c s reason o ≡ 0 → ramp-refused c s o ≡ false
+unfolding offer-number
+fourteen limits c s reason o e =
+    draw-zero _ 14 (omega arith) (then-zero _ _ (then-zero _ _ (then-zero _ _ (then-zero _ _ e .1) .1) .1) .0)
+
+pub offer-fits : (limits c : List ℤ) (reason : ℕ) (b : List ℕ) → has-stray b ≡ false → (call-of b ≡ 3) ⊎ (call-of b ≡ 4)
+    → offer-number limits c (service-of b) reason (offer-in b) ≡ 0 → ramps-fit (offer-in b) ≡ true
+offer-fits limits c reason b none-stray call e = go (service-of b) refl
+  where
+    passed : ramp-refused c (service-of b) (offer-in b) ≡ false
+    passed = fourteen limits c (service-of b) reason (offer-in b) e
+
+    go : (s : ℕ) → service-of b ≡ s → ramps-fit (offer-in b) ≡ true
+    go zero q = ramps-sent c b (ap (λ (s : ℕ). ramp-refused c s (offer-in b)) (sym q) ∙ passed)
+    go (suc s) q = ramps-unsent b none-stray call (λ z. omega arith)
+
+-- ---- there and back
+
+unpacked : (u d : ℤ) → beyond (pos 0) (pos 9999) u ≡ false → beyond (pos 0) (pos 9999) d ≡ false
+    → (quotZ (u *ℤ pos 10000 +ℤ d) (pos 10000) ≡ u) × (remZ (u *ℤ pos 10000 +ℤ d) (pos 10000) ≡ d)
+unpacked (pos u) (pos d) hu hd =
+    let z = within _ _ d hd .1 in
+    (ap pos (omega arith), ap pos (omega arith))
+unpacked (pos u) (negsuc d) hu hd = absurd (true≢false hd)
+unpacked (negsuc u) d hu hd = absurd (true≢false hu)
+
+-- What a cell holds is read back.
+pub cell-back : (stamp now : ℕ) (o : List ℤ) → length o ≡ 23 → ramps-fit o ≡ true → cell-held (cell stamp (accepted-at now o)) ≡ accepted-at now o
+unfolding cell cell-held any-beyond
+cell-back stamp now [] n e = absurd (omega arith)
+cell-back stamp now (p ∷ []) n e = absurd (omega arith)
+cell-back stamp now (p ∷ (u ∷ [])) n e = absurd (omega arith)
+cell-back stamp now (p ∷ (u ∷ (d ∷ l))) n e =
+    let t = not-true _ e in
+    let back = unpacked u d (or-left (beyond (pos 0) (pos 9999) u) _ t) (or-left (beyond (pos 0) (pos 9999) d) _ (or-right (beyond (pos 0) (pos 9999) u) _ t)) in
+    rw (back .0, back .1)
+
+-- What is held under a stamp other than 0, which an empty cell has, is read back.
+pub held-back : (stamp now : ℕ) (o : List ℤ) → (stamp ≡ 0 → ⊥) → length o ≡ 23 → ramps-fit o ≡ true → held stamp (cell stamp (accepted-at now o)) ≡ some (accepted-at now o)
+unfolding held
+held-back stamp now o n long fit = rw (stamped, eq-eqb stamp stamp refl) (ap some (cell-back stamp now o long fit))
+  where
+    stamped : word (cell stamp (accepted-at now o)) 0 ≡ pos stamp
+    stamped = unfold cell in refl
+
+-- A variation taken back leaves an empty cell, whose stamp is 0.
+pub made-back : (p now : ℕ) (o : List ℤ) → length o ≡ 23 → ramps-fit o ≡ true
+    → held (variation-stamp p) (holding (variation-stamp p) (variation-made now o)) ≡ variation-made now o
+unfolding variation-made
+made-back p now o long fit = go (all-blank (pairs o))
+  where
+    go : (t : Bool) → held (variation-stamp p) (holding (variation-stamp p) (cond t none (some (accepted-at now o)))) ≡ cond t none (some (accepted-at now o))
+    go true = unfold held holding in rw (ne-eqb 0 (variation-stamp p) (λ z. omega arith))
+    go false = unfold holding in held-back (variation-stamp p) now o (λ z. omega arith) long fit
+
+pub length-cell : (stamp : ℕ) (h : Held) → length (h .offer) ≡ 23 → length (cell stamp h) ≡ 24
+unfolding cell
+length-cell stamp h n = ap (λ (k : ℕ). suc (suc (suc (suc k)))) (length-drop 3 (h .offer) ∙ omega arith)
+
+pub length-holding : (stamp now : ℕ) (o : List ℤ) → length o ≡ 23 → length (holding stamp (variation-made now o)) ≡ 24
+unfolding variation-made holding
+length-holding stamp now o n = go (all-blank (pairs o))
+  where
+    go : (t : Bool) → length (holding stamp (cond t none (some (accepted-at now o)))) ≡ 24
+    go true = refl
+    go false = length-cell stamp (accepted-at now o) n
