@@ -6,19 +6,18 @@ use mathlib.Core.List.{List}
 use mathlib.Core.Option.{Option, none, some}
 use Prim.Native.Nat.{ℕ, _+_, _≤_, _<_}
 use native.Mathlib.Omega.{arith}
-use lib.Dec.{eqb}
 use lib.IntN.{ℤ}
 use lib.ListN.{length}
-use borrow.Author.Tests.{eq-eqb, eqb-true, ne-eqb}
+use borrow.Author.Tests.{eq-eqb, ne-eqb}
 use Rattle.offer_rules.specs.Numbers.{toNat, word}
 use Rattle.offer_rules.specs.Time.{slots, slot-of}
 use Rattle.offer_rules.specs.Offer.{Pair, pairs, Held, accepted-at, all-blank}
 use Rattle.offer_rules.specs.Gate.{gate-refuses}
 use Rattle.book_rules.specs.Record.{call-of, facility-of, service-of, period-word, reason-of, offer-in}
-use Rattle.book_rules.specs.Words.{part, put, book-size, cell-place, standing-half, variation-half, cell, cell-held, holding, standing-stamp, variation-stamp, is-book}
-use Rattle.book_rules.specs.Force.{InForce, first-of, in-force, variation-made, will-stand, pairs-of}
-use Rattle.book_rules.specs.Refusals.{judge, grounds}
-use Rattle.book_rules.specs.Book.{facilities-in, services-in, now-in, held, cell-in, write-cell, book-view, book-accept, book-after}
+use Rattle.book_rules.specs.Words.{part, put, book-size, cell-place, standing-half, variation-half, cell, cell-held, holding, standing-stamp, variation-stamp}
+use Rattle.book_rules.specs.Force.{first-of, in-force, variation-made, will-stand, pairs-of}
+use Rattle.book_rules.specs.Refusals.{grounds}
+use Rattle.book_rules.specs.Book.{facilities-in, services-in, now-in, held, cell-in, write-cell, book-view, book-after}
 use Rattle.book_rules.specs.ByNumber.{conditions-from-5, conditions, applies}
 use Rattle.book_rules.specs.Claims.{is-accepted, force-for, StandsAfterwards, HeldAsFiled}
 use Rattle.book_rules.proofs.Parts.{part-put, part-apart, word-before}

@@ -1,20 +1,20 @@
 -- A cell written and read back: refusals 4 and 14 leave no ramps that word 2 doesn't give back.
 use mathlib.Core.Path.{_≡_, refl, sym, _∙_, ap, ap₂}
-use mathlib.Core.Bool.{Bool, true, false, cond, not, _&&_, _||_, true≢false}
+use mathlib.Core.Bool.{Bool, true, false, cond, not, _&&_, true≢false}
 use mathlib.Core.List.{List, [], _∷_}
-use mathlib.Core.Option.{Option, none, some}
+use mathlib.Core.Option.{none, some}
 use mathlib.Core.Logic.{_≢_, _⊎_, inl, inr}
-use Prim.Native.Nat.{ℕ, zero, suc, _+_, _*_, _-_, _/_, _%_, _≤_, _<_}
+use Prim.Native.Nat.{ℕ, zero, suc, _+_, _*_, _-_, _≤_}
 use native.Mathlib.Omega.{arith}
 use lib.Dec.{leb, ltb, eqb}
 use lib.IntN.{ℤ, pos, negsuc, _+ℤ_, _*ℤ_}
 use lib.Signed.{quotZ, remZ, ltZ}
 use lib.ListN.{length, getD, drop, length-drop}
 use lib.Seq.{getD-drop}
-use borrow.Author.Tests.{eq-eqb, ne-eqb, eqb-true, lt-leb, not-true, not-false}
-use Rattle.offer_rules.specs.Numbers.{toNat, word, beyond, any-beyond, draw, _then_}
+use borrow.Author.Tests.{eq-eqb, ne-eqb, eqb-true, lt-leb, not-true}
+use Rattle.offer_rules.specs.Numbers.{word, beyond, any-beyond}
 use Rattle.offer_rules.specs.Offer.{pairs, Held, accepted-at, all-blank, ramp-beyond, ramp-refused, offer-number}
-use Rattle.offer_rules.proofs.Drawn.{and-left, and-right, and-false, or-left, or-right, or-false, then-zero, draw-zero}
+use Rattle.offer_rules.proofs.Drawn.{and-false, or-left, or-right, or-false, then-zero, draw-zero}
 use Rattle.offer_rules.proofs.Periods.{within}
 use Rattle.book_rules.specs.Record.{byte, word-at, signed, call-of, service-of, offer-in, used-by-offer, used, any-stray, has-stray}
 use Rattle.book_rules.specs.Words.{cell, cell-held, holding, ramps-fit, variation-stamp}
@@ -118,7 +118,7 @@ cell-back stamp now (p ∷ (u ∷ [])) n e = absurd (omega arith)
 cell-back stamp now (p ∷ (u ∷ (d ∷ l))) n e =
     let t = not-true _ e in
     let back = unpacked u d (or-left (beyond (pos 0) (pos 9999) u) _ t) (or-left (beyond (pos 0) (pos 9999) d) _ (or-right (beyond (pos 0) (pos 9999) u) _ t)) in
-    rw (back .0, back .1)
+    λ i. record { offer = p ∷ (back .0 i ∷ (back .1 i ∷ l)); minute = pos now }
 
 -- What is held under a stamp other than 0, which an empty cell has, is read back.
 pub held-back : (stamp now : ℕ) (o : List ℤ) → (stamp ≡ 0 → ⊥) → length o ≡ 23 → ramps-fit o ≡ true → held stamp (cell stamp (accepted-at now o)) ≡ some (accepted-at now o)

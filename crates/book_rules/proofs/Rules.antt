@@ -15,7 +15,7 @@ use Rattle.offer_rules.proofs.Drawn.{then-eq, then-zero, draw-zero}
 use Rattle.offer_rules.proofs.Periods.{slot-is, period-is}
 use Rattle.book_rules.specs.Record.{call-of, facility-of, service-of, period-word, reason-of, word-A, word-B, capability-in, offer-in, uses, has-stray}
 use Rattle.book_rules.specs.Words.{ramps-fit}
-use Rattle.book_rules.specs.Force.{View, InForce, first-of, in-force, variation-made, will-stand, pairs-of, counted, offered, count-in-force, sum-in-force, found, totalled}
+use Rattle.book_rules.specs.Force.{View, InForce, first-of, in-force, will-stand, pairs-of, counted, offered, count-in-force, sum-in-force, found, totalled}
 use Rattle.book_rules.specs.Refusals.{clock-number, capability-number, facility-number, admission-number, admitted-standing, admitted-variation, revision-number, grounds, gate-number, period-number, force-number, standing-number, variation-number, look-up-number, outage-number, judge, reply, look-up-reply, total-reply}
 use Rattle.book_rules.proofs.Calls.{Which, is-clock, is-capability, is-standing, is-variation, is-outage, is-notice, is-withdrawal, is-look-up, is-total, Named, judge-clock, judge-capability, judge-standing, judge-variation, judge-outage, judge-notice, judge-withdrawal, judge-look-up, judge-total, reply-look-up, reply-total, reply-plain, capability-uses, standing-uses, variation-uses, outage-uses, look-up-uses, total-uses}
 use Rattle.book_rules.proofs.Cells.{offer-fits}
@@ -80,7 +80,7 @@ module _ (F S : ℕ) (Q : ℕ → Type 0) where
 
     afterwards-same : (f s p : ℕ) (o : List ℤ) → Q f → f < F → s < S → will-stand u f s p o ≡ will-stand v f s p o
     unfolding will-stand
-    afterwards-same f s p o q hf hs = ap₂ first-of (ap (λ (now : ℕ). variation-made now o) (r .now-same)) (r .standing-same f s (slot-of p) q hf hs (omega arith))
+    afterwards-same f s p o q hf hs = rw (r .now-same, r .standing-same f s (slot-of p) q hf hs (omega arith))
 
     grounds-same : (f : ℕ) → Q f → f < F → grounds u f ≡ grounds v f
     unfolding grounds
