@@ -31,6 +31,9 @@ struct scene {
 
 void scene_of(struct scene *scene, struct random *r, const int32_t *words, int32_t facilities, int32_t services);
 
+/* Of a cell's words: ramp up times 10,000 plus ramp down, and the minute of acceptance. */
+enum { CELL_RAMPS = 2, CELL_MINUTE = 3 };
+
 /* The cell of (f, s, standing 0 or variation 1, slot), as a place in the words. */
 size_t place_of_cell(int32_t facilities, int32_t services, int f, int s, int h, int64_t slot);
 
