@@ -36,8 +36,8 @@
 #define BILZHAAN_VERSION 10300
 
 /* A book of another version than BILZHAAN_BOOK_VERSION, head word 1, is refused with 1. Nothing converts a stored book of
- * version 1, whose cells hold no minute: its host opens a new book and files capabilities, clock, notices, outages and
- * offers again from its own records. */
+ * version 1, whose cells hold no minute: its host opens a new book and files again, from its own records, what was accepted,
+ * in its order and with the clock records between, so that each offer has its minute. */
 enum {
     BILZHAAN_BOOK_VERSION = 2,     /* of the books that this version opens and reads */
     BILZHAAN_RECORD_BYTES = 112,
@@ -162,7 +162,7 @@ enum {
     BILZHAAN_OUT_OF_RANGE = 11,        /* reason, quantity or price */
     BILZHAAN_PRICED_BLANK = 12,        /* quantity 0 with a price */
     BILZHAAN_PRICES_DONT_RISE = 13,
-    BILZHAAN_RAMP_REFUSED = 14,        /* below 0, above its maximum or above 9,999 */
+    BILZHAAN_RAMP_REFUSED = 14,
     BILZHAAN_PROPORTION_REFUSED = 15,
     BILZHAAN_ABOVE_CAPACITY = 16,
     BILZHAAN_GATE_CLOSED = 17,
