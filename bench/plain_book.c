@@ -464,14 +464,15 @@ static struct bilzhaan_answer look_up(const struct book *b, const uint8_t *r)
     const int32_t *cell = in_force(b, r[6], r[7], period);
     if (!cell)
         return numbered(19);
+    bool is_variation = cell[0] == period + 1; /* a period not begun is 1 or more, so its stamp isn't 1 */
+    bool is_fresh = (int64_t)b->now - cell[CELL_MINUTE] < SCHEDULE_CUTOFF_MINUTES;
     struct bilzhaan_answer answer;
     answer.number = 0;
-    memcpy(answer.words, cell, sizeof answer.words);
-    answer.words[0] = cell[0] == period + 1 ? 2 : 1; /* a period not begun is 1 or more, so its stamp isn't 1 */
-    if ((int64_t)b->now - cell[CELL_MINUTE] < SCHEDULE_CUTOFF_MINUTES)
-        answer.words[0] += 2;
+    answer.words[0] = 1 + is_variation + 2 * is_fresh;
+    answer.words[1] = cell[CELL_PROPORTION];
     answer.words[2] = cell[CELL_RAMPS] / RAMP_UNIT;
     answer.words[3] = cell[CELL_RAMPS] % RAMP_UNIT;
+    memcpy(answer.words + 4, cell + CELL_PAIRS, (CELL_WORDS - CELL_PAIRS) * sizeof cell[0]);
     answer.sum = quantities(cell);
     return answer;
 }

@@ -160,6 +160,25 @@ static void damaged_near_gate(struct list *l, struct random *r, struct scene *sc
     }
 }
 
+/* Standing offers filed again over their own cells, whose minute, and ramps for some, were damaged. */
+static void damaged_duplicates(struct list *l, struct random *r, struct scene *scene)
+{
+    for (int i = 0; i < SCENE_KEYS && usable_sizes(l) && !l->is_wrong; i++) {
+        int f = scene->keys[i].facility, s = scene->keys[i].service;
+        int64_t slot = scene->keys[i].period < 0 ? 0 : scene->keys[i].period % 336;
+        if (f >= scene->facilities || s >= scene->services)
+            continue;
+        size_t cell = place_of_cell(scene->facilities, scene->services, f, s, 0, slot);
+        if (l->plain[cell] != 1)
+            continue;
+        set_both(l, cell + CELL_MINUTE, odd_minute(r, l->plain[4]));
+        if (one_in(r, 4))
+            set_both(l, cell + CELL_RAMPS, odd_ramps(r));
+        struct record record = held_again(scene, f, s, slot);
+        compared_call(l, r, record.bytes, sizeof record.bytes);
+    }
+}
+
 static void damaged_round(struct list *l, struct random *r, struct scene *scene)
 {
     int32_t head[4];
@@ -181,6 +200,8 @@ static void damaged_round(struct list *l, struct random *r, struct scene *scene)
     }
     if (one_in(r, 2))
         damaged_near_gate(l, r, scene);
+    if (one_in(r, 4))
+        damaged_duplicates(l, r, scene);
     for (int64_t i = between(r, 4, 20); i > 0 && !l->is_wrong; i--) {
         uint8_t bytes[LONGEST_RECORD];
         size_t length = random_call(r, scene, bytes);

@@ -275,6 +275,13 @@ static void copy_cell(const int32_t *cell, int s, struct record *record)
         set_w(record, i, cell[4 + i]);
 }
 
+struct record held_again(const struct scene *scene, int f, int s, int64_t slot)
+{
+    struct record record = offer_for(BILZHAAN_CALL_STANDING, f, s, (int32_t)slot, 0);
+    copy_cell(cell_of(scene, f, s, 0, slot), s, &record);
+    return record;
+}
+
 /* A reason that the hints say holds, or any. */
 static int some_reason(struct random *r, const struct scene *scene, int f, int s, int64_t period)
 {
