@@ -1,6 +1,3 @@
-use mathlib.Core.Path.{ap}
-use lib.IntN.{ℤ, pos}
-use lib.Signed.{ltZ}
 use borrow.Author.Needs.{needs}
 use Rattle.offer_rules.specs.Time.{is-fresh}
 use Rattle.cells.proofs.Packing.{minute-fits, age-fits, age-back}
@@ -18,7 +15,7 @@ sub-result c = age-fits (c .args .clock) (c .args .minute) (c .pre) (c .fits .mi
 
 returns : tie.Need-returns
 unfolding is-fresh
-returns c = ap (λ (age : ℤ). ltZ age (pos 5)) (age-back (c .args .clock) (c .args .minute) (c .pre) (c .fits .minute))
+returns c = rw (age-back (c .args .clock) (c .args .minute) (c .pre) (c .fits .minute))
 
 pub is-fresh-spec : {M : Type 1} → statement M
 is-fresh-spec = tie.close (tie.spec cast-result cast-result-2 sub-result returns)
