@@ -7,7 +7,7 @@ ghost use lib.Dec.{eqb};
 ghost use lib.ListN.{length};
 ghost use Rattle.offer_rules.specs.Numbers.{toNat, word};
 ghost use Rattle.offer_rules.specs.Time.{slot-refused, period-refused};
-ghost use Rattle.offer_rules.specs.Offer.{accepted-at};
+ghost use Rattle.offer_rules.specs.Offer.{pairs, accepted-at, all-blank};
 ghost use Rattle.book_rules.specs.Record.{call-of, period-word};
 ghost use Rattle.book_rules.specs.Words.{clock-place, cell, ramps-fit};
 ghost use Rattle.book_rules.specs.Force.{plain};
@@ -20,11 +20,12 @@ use cells::store_word;
 use cells::store_words;
 use judging::admission_number;
 use judging::admitted_standing;
-use judging::admitted_variation;
 use judging::clock;
 use judging::facilities;
 use judging::kind_number;
+use judging::offer_number;
 use judging::services;
+use judging::variation_gate_number;
 use judging::wide;
 use layout::cell;
 use layout::facility;
@@ -172,7 +173,7 @@ pub fn standing_call(book: &mut [i32], bytes: &[u8]) -> u8
     stand(book, bytes)
 }
 
-// Files a variation and returns 0, or returns the number that it drew. Where its pairs are all blank, "Its cell becomes 24 zeros."
+// Files a variation and returns 0, or returns the number that it drew. Where its pairs are all blank, as it is told, "Its cell becomes 24 zeros."
 // "The slot of P is P mod 336."
 fn file_variation(
     book: &mut [i32],
@@ -180,9 +181,10 @@ fn file_variation(
     service: u8,
     period: usize,
     offer: &[i32],
+    blank: bool,
     number: u8,
 ) -> u8
-    requires { ⌜ Usable (now book) × (f < facilities-in (now book)) × (service < services-in (now book)) × (period < 2147483647) × (length (now offer) ≡ 23) × (number ≡ 0 → ramps-fit (now offer) ≡ true) ⌝ }
+    requires { ⌜ Usable (now book) × (f < facilities-in (now book)) × (service < services-in (now book)) × (period < 2147483647) × (length (now offer) ≡ 23) × (ramps-fit (now offer) ≡ true) × (blank ≡ all-blank (pairs (now offer))) ⌝ }
     ensures { λ r. ⌜ (r ≡ number) × (now (book .exit) ≡ cond (eqb number 0) (file-variation (now (book .entry)) f service period (now (offer .entry))) (now (book .entry))) ⌝ }
 {
     if number != 0 {
@@ -190,7 +192,7 @@ fn file_variation(
     }
     let slot = period % cell::SLOTS;
     let stamp = (period + 1) as u32;
-    if is_all_blank(offer) {
+    if blank {
         let none = [0i32; offer::WORDS];
         return file_offer(
             book,
@@ -226,10 +228,16 @@ fn vary(book: &mut [i32], bytes: &[u8]) -> u8
     let f = wide(bytes[fields::FACILITY]);
     let service = bytes[fields::SERVICE];
     let period = nat(word_at(bytes, fields::PERIOD)) as usize;
+    let reason = bytes[fields::REASON];
     let mut offer = [0i32; offer::WORDS];
     read_offer(bytes, &mut offer);
-    let number = admitted_variation(book, f, service, period, bytes[fields::REASON], &offer);
-    file_variation(book, f, service, period, &offer, number)
+    let number = offer_number(book, f, service, reason, &offer);
+    if number != 0 {
+        return number;
+    }
+    let blank = is_all_blank(&offer);
+    let gate = variation_gate_number(book, f, service, period, reason, &offer, blank);
+    file_variation(book, f, service, period, &offer, blank, gate)
 }
 
 // 5, 9 and 10 before the offer is read, as of a standing offer.

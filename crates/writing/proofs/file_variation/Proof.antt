@@ -31,9 +31,6 @@ add-stamp c = search needs
 cast-stamp : tie.Need-cast-stamp
 cast-stamp c = search needs
 
-is-all-blank-requires : tie.Need-is-all-blank-requires
-is-all-blank-requires c κs = search needs
-
 slice-aggregate-file-offer : tie.Need-slice-aggregate-file-offer
 slice-aggregate-file-offer c = search needs
 
@@ -46,18 +43,17 @@ same-length c = search needs
 
 returns-2 : tie.Need-returns-2
 returns-2 c =
-    let blank = c .before .before .before .before .before .is-all-blank in
-    let s = c .before .before .before .before .before .before .before in
+    let s = c .before .before .before .before .before .before in
     let x = c .before .file-offer in
-    (x .ensures .0, x .ensures .1 ∙ ap (filed s) (empty-cell (variation-stamp (s .args .period)) (now-in (s .args .book .now)) (s .args .offer .now) (sym (blank .ensures) ∙ c .before .before .before .before .if2 .taken)))
+    (x .ensures .0, x .ensures .1 ∙ ap (filed s) (empty-cell (variation-stamp (s .args .period)) (now-in (s .args .book .now)) (s .args .offer .now) (sym (s .pre .6) ∙ c .before .before .before .before .if2 .taken)))
 
 clock-requires : tie.Need-clock-requires
 clock-requires c κs = search needs
 
 file-offer-requires-2 : tie.Need-file-offer-requires-2
 file-offer-requires-2 c κs =
-    let s = c .before .before .before .before .before .before in
-    (s .pre .0, s .pre .1, s .pre .2, omega arith, omega arith, omega arith, c .before .clock .ensures .1, s .pre .4, s .pre .5)
+    let s = c .before .before .before .before .before in
+    (s .pre .0, s .pre .1, s .pre .2, omega arith, omega arith, omega arith, c .before .clock .ensures .1, s .pre .4, λ _. s .pre .5)
 
 same-length-2 : tie.Need-same-length-2
 same-length-2 c = search needs
@@ -66,12 +62,12 @@ returns-3 : tie.Need-returns-3
 returns-3 c =
     let now = c .before .before .before .clock in
     let b = c .before .before .before .before .before in
-    let s = b .before .before .before in
+    let s = b .before .before in
     let o = s .args .offer .now in
     let stamp = variation-stamp (s .args .period) in
     let x = c .before .file-offer2 in
     let timed = ap (λ (n : ℕ). filed s (cell stamp (accepted-at n o))) (now .ensures .0) in
-    (x .ensures .0, x .ensures .1 ∙ timed ∙ ap (filed s) (stamped-cell stamp (now-in (s .args .book .now)) o (sym (b .before .is-all-blank .ensures) ∙ b .if2 .left)))
+    (x .ensures .0, x .ensures .1 ∙ timed ∙ ap (filed s) (stamped-cell stamp (now-in (s .args .book .now)) o (sym (s .pre .6) ∙ b .if2 .left)))
 
 pub file-variation-spec : {M : Type 1} → statement M
 file-variation-spec =
@@ -80,7 +76,6 @@ file-variation-spec =
     returns
     add-stamp
     cast-stamp
-    is-all-blank-requires
     slice-aggregate-file-offer
     file-offer-requires
     same-length
