@@ -1,10 +1,10 @@
--- A cell written and read back: refusals 4 and 14 leave no ramps that word 2 doesn't give back.
+-- What refusal 4 leaves of an offer, and a cell written and read back: 4 and 14 leave no ramps that word 2 doesn't give back.
 use mathlib.Core.Path.{_≡_, refl, sym, _∙_, ap, ap₂}
 use mathlib.Core.Bool.{Bool, true, false, cond, not, _&&_, true≢false}
 use mathlib.Core.List.{List, [], _∷_}
 use mathlib.Core.Option.{none, some}
 use mathlib.Core.Logic.{_≢_, _⊎_, inl, inr}
-use Prim.Native.Nat.{ℕ, zero, suc, _+_, _*_, _-_, _≤_}
+use Prim.Native.Nat.{ℕ, zero, suc, _+_, _-_, _≤_, _<_}
 use native.Mathlib.Omega.{arith}
 use lib.Dec.{leb, ltb, eqb}
 use lib.IntN.{ℤ, pos, negsuc, _+ℤ_, _*ℤ_}
@@ -12,16 +12,16 @@ use lib.Signed.{quotZ, remZ, ltZ}
 use lib.ListN.{length, getD, drop, length-drop}
 use lib.Seq.{getD-drop}
 use borrow.Author.Tests.{eq-eqb, ne-eqb, eqb-true, lt-leb, not-true}
-use Rattle.offer_rules.specs.Numbers.{word, beyond, any-beyond}
+use Rattle.offer_rules.specs.Numbers.{word, between, beyond, any-beyond}
 use Rattle.offer_rules.specs.Offer.{pairs, Held, accepted-at, all-blank, ramp-beyond, ramp-refused, offer-number}
 use Rattle.offer_rules.proofs.Drawn.{and-false, or-left, or-right, or-false, then-zero, draw-zero}
 use Rattle.offer_rules.proofs.Periods.{within}
-use Rattle.book_rules.specs.Record.{byte, word-at, signed, call-of, service-of, offer-in, used-by-offer, used, any-stray, has-stray}
+use Rattle.book_rules.specs.Record.{byte, signed, word-at, words-at, call-of, service-of, offer-in, used-by-offer, used, any-stray, has-stray}
 use Rattle.book_rules.specs.Words.{cell, cell-held, holding, ramps-fit, variation-stamp}
 use Rattle.book_rules.specs.Force.{variation-made}
 use Rattle.book_rules.specs.Book.{held}
 
--- ---- ramps that are not sent are zero
+-- ---- what is not sent is zero
 
 -- Where no byte is stray, a byte that isn't used is zero.
 unused-zero : (f : ℕ → Bool) (i : ℕ) (l : List ℕ) → any-stray f i l ≡ false → (k : ℕ) → f (i + k) ≡ false → getD l k 0 ≡ 0
@@ -35,16 +35,15 @@ unused-zero f i (x ∷ l) e zero u = go (eqb x 0) refl (or-left (not (eqb x 0) &
 unused-zero f i (x ∷ l) e (suc k) u =
     unused-zero f (suc i) l (or-right (not (eqb x 0) && not (f i)) (any-stray f (suc i) l) e) k (ap f (omega arith) ∙ u)
 
--- "An offer for service 0 uses both ramps": no other does.
-no-ramps : (s i : ℕ) → s ≢ 0 → 16 ≤ i → i ≤ 23 → used-by-offer s i ≡ false
-unfolding used-by-offer
-no-ramps s i n a z =
-    rw (ne-eqb s 0 n, lt-leb i 15 (omega arith), lt-leb 32 i (omega arith), and-false (leb 14 i), and-false (ltb s 4))
-
+-- "An offer for service 0 uses both ramps and ten pairs": no other uses more than five, nor a ramp.
 module _ (b : List ℕ) (none-stray : has-stray b ≡ false) (call : (call-of b ≡ 3) ⊎ (call-of b ≡ 4)) (other : service-of b ≢ 0) where
-  ramp-byte : (i : ℕ) → 16 ≤ i → i ≤ 23 → byte b i ≡ 0
+  unused : (i : ℕ) → 16 ≤ i → between 32 71 i ≡ false → used-by-offer (service-of b) i ≡ false
+  unfolding used-by-offer
+  unused i h e = rw (ne-eqb (service-of b) 0 other, lt-leb i 15 (omega arith), and-false (leb 14 i), and-false (ltb (service-of b) 4), e)
+
+  byte-zero : (i : ℕ) → 16 ≤ i → between 32 71 i ≡ false → byte b i ≡ 0
   unfolding has-stray
-  ramp-byte i a z = go call
+  byte-zero i h f = go call
     where
       at : (k : ℕ) → used k (service-of b) i ≡ false → call-of b ≡ k → byte b i ≡ 0
       at k u e =
@@ -53,17 +52,45 @@ module _ (b : List ℕ) (none-stray : has-stray b ≡ false) (call : (call-of b 
           ∙ unused-zero (used (call-of b) (service-of b)) 6 (drop 6 b) none-stray (i - 6) (ap₂ (λ (m n : ℕ). used m (service-of b) n) e j ∙ u)
 
       go : (call-of b ≡ 3) ⊎ (call-of b ≡ 4) → byte b i ≡ 0
-      go (inl e) = at 3 (unfold used in rw (lt-leb i 11 (omega arith), no-ramps (service-of b) i other a z) (or-false (leb 6 i && false) ∙ and-false (leb 6 i))) e
-      go (inr e) = at 4 (unfold used in rw (lt-leb i 12 (omega arith), no-ramps (service-of b) i other a z) (or-false (leb 6 i && false) ∙ and-false (leb 6 i))) e
+      go (inl e) = at 3 (unfold used in rw (lt-leb i 11 (omega arith), unused i h f) (or-false (leb 6 i && false) ∙ and-false (leb 6 i))) e
+      go (inr e) = at 4 (unfold used in rw (lt-leb i 12 (omega arith), unused i h f) (or-false (leb 6 i && false) ∙ and-false (leb 6 i))) e
 
-  ramp-zero : (i : ℕ) → 16 ≤ i → i ≤ 20 → word-at b i ≡ pos 0
+  word-zero : (i : ℕ) → 16 ≤ i → ((j : ℕ) → j < 4 → between 32 71 (i + j) ≡ false) → word-at b i ≡ pos 0
   unfolding word-at signed
-  ramp-zero i a z =
-      rw (ramp-byte i a (omega arith), ramp-byte (i + 1) (omega arith) (omega arith), ramp-byte (i + 2) (omega arith) (omega arith), ramp-byte (i + 3) (omega arith) (omega arith))
+  word-zero i h f =
+      let first : i ≡ i + 0 = omega arith in
+      rw (
+        byte-zero i h (ap (between 32 71) first ∙ f 0 (omega arith)),
+        byte-zero (i + 1) (omega arith) (f 1 (omega arith)),
+        byte-zero (i + 2) (omega arith) (f 2 (omega arith)),
+        byte-zero (i + 3) (omega arith) (f 3 (omega arith)),
+      )
+
+  before-pairs : (i : ℕ) → 16 ≤ i → i ≤ 28 → word-at b i ≡ pos 0
+  before-pairs i h z = word-zero i h (λ j k. ap (λ (t : Bool). t && leb (i + j) 71) (lt-leb 32 (i + j) (omega arith)))
+
+  past-five : (i : ℕ) → 72 ≤ i → word-at b i ≡ pos 0
+  past-five i h = word-zero i (omega arith) (λ j k. ap (λ (t : Bool). leb 32 (i + j) && t) (lt-leb (i + j) 71 (omega arith)) ∙ and-false (leb 32 (i + j)))
 
   ramps-unsent : ramps-fit (offer-in b) ≡ true
   unfolding offer-in any-beyond
-  ramps-unsent = rw (ramp-zero 16 (omega arith) (omega arith), ramp-zero 20 (omega arith) (omega arith))
+  ramps-unsent = rw (before-pairs 16 (omega arith) (omega arith), before-pairs 20 (omega arith) (omega arith))
+
+  pub last-five-unsent : any-beyond (pos 0) (pos 0) (drop 3 (offer-in b)) 10 10 ≡ false
+  unfolding offer-in words-at any-beyond
+  last-five-unsent =
+      rw (
+        past-five 72 (omega arith),
+        past-five 76 (omega arith),
+        past-five 80 (omega arith),
+        past-five 84 (omega arith),
+        past-five 88 (omega arith),
+        past-five 92 (omega arith),
+        past-five 96 (omega arith),
+        past-five 100 (omega arith),
+        past-five 104 (omega arith),
+        past-five 108 (omega arith),
+      )
 
 -- ---- an energy offer's ramps
 

@@ -9,6 +9,7 @@ ghost use Rattle.book_rules.specs.Words.{part, clock-place, limits-place, facil
 ghost use Rattle.book_rules.specs.Force.{in-force, will-stand, pairs-of};
 ghost use Rattle.book_rules.specs.Refusals.{facility-number, gate-number, period-number, admission-number, admitted-standing, grounds};
 ghost use Rattle.book_rules.specs.Book.{facilities-in, services-in, window-in, book-view};
+ghost use Rattle.offers.specs.PairTests.{UsesFive};
 ghost use Rattle.gate.specs.Meaning.{window-of, grounds-of};
 ghost use Rattle.judging.specs.Usable.{Usable};
 use cells::held_standing;
@@ -106,7 +107,7 @@ pub fn admission_number(book: &[i32], f: usize, service: u8, refused: bool) -> u
 
 // 11 to 16 of an offer, under the book's limits and the facility's capability.
 pub fn offer_number(book: &[i32], f: usize, service: u8, reason: u8, offer: &[i32]) -> u8
-    requires { ⌜ Usable (now book) × (f < facilities-in (now book)) × (service < services-in (now book)) × (length (now offer) ≡ 23) ⌝ }
+    requires { ⌜ Usable (now book) × (f < facilities-in (now book)) × (service < services-in (now book)) × (length (now offer) ≡ 23) × UsesFive service (now offer) ⌝ }
     ensures { λ r. ⌜ (r ≡ offer-number (part limits-place 6 (now (book .entry))) (part (facility-place f) 17 (now (book .entry))) service reason (now (offer .entry))) × (r ≤ 16) ⌝ }
 {
     offers::offer_number(
@@ -120,7 +121,7 @@ pub fn offer_number(book: &[i32], f: usize, service: u8, reason: u8, offer: &[i3
 
 // 11 to 18 of a standing offer that is admitted: "A first one always passes the gate."
 pub fn admitted_standing(book: &[i32], f: usize, service: u8, slot: usize, offer: &[i32]) -> u8
-    requires { ⌜ Usable (now book) × (f < facilities-in (now book)) × (service < services-in (now book)) × (slot < 336) × (length (now offer) ≡ 23) ⌝ }
+    requires { ⌜ Usable (now book) × (f < facilities-in (now book)) × (service < services-in (now book)) × (slot < 336) × (length (now offer) ≡ 23) × UsesFive service (now offer) ⌝ }
     ensures { λ r. ⌜ (r ≡ admitted-standing (book-view (now (book .entry))) f service slot (now (offer .entry))) × (r ≤ 18) ⌝ }
 {
     let number = offer_number(book, f, service, 0, offer);

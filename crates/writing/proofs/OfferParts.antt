@@ -1,6 +1,6 @@
 -- An offer's number in two parts: 5, 9 and 10, and what it draws once it is admitted; what its call then answers and leaves; and a variation's cell.
 use mathlib.Core.Path.{_≡_, sym, _∙_}
-use mathlib.Core.Logic.{inr}
+use mathlib.Core.Logic.{_⊎_, inr}
 use mathlib.Core.Bool.{Bool, true, false, cond}
 use mathlib.Core.List.{List}
 use Prim.Native.Nat.{ℕ, zero, suc, _≤_}
@@ -18,8 +18,9 @@ use Rattle.book_rules.specs.Force.{in-force, variation-made, will-stand, pairs-
 use Rattle.book_rules.specs.Refusals.{judge, grounds, gate-number, admission-number, admitted-standing, admitted-variation, standing-number, variation-number}
 use Rattle.book_rules.specs.Book.{facilities-in, services-in, book-view, book-accept}
 use Rattle.book_rules.proofs.Calls.{named, judge-standing, judge-variation}
-use Rattle.book_rules.proofs.Cells.{offer-fits}
+use Rattle.book_rules.proofs.Cells.{last-five-unsent, offer-fits}
 use Rattle.book_rules.proofs.Rules.{admitted-standing-fits}
+use Rattle.offers.specs.PairTests.{UsesFive}
 use Rattle.judging.specs.Tested.{Tested}
 use Rattle.judging.proofs.Answering.{Answers, refused, filed}
 
@@ -80,6 +81,10 @@ module _ (w : List ℤ) (b : List ℕ) where
 module _ (w : List ℤ) (b : List ℕ) (t : Tested w b) where
   none-stray : has-stray b ≡ false
   none-stray = named (facilities-in w) (services-in w) b (t .is-taken) .none-stray
+
+  -- What its service doesn't use is empty.
+  pub offer-uses-five : (call-of b ≡ 3) ⊎ (call-of b ≡ 4) → UsesFive (service-of b) (offer-in b)
+  offer-uses-five c other = last-five-unsent b none-stray c other
 
   pub standing-ramps : call-of b ≡ 3 → (k n : ℕ) → n ≡ admitted-standing (book-view w) (facility-of b) (service-of b) k (offer-in b) → n ≡ 0 → ramps-fit (offer-in b) ≡ true
   standing-ramps c k n e z = admitted-standing-fits (book-view w) b none-stray k c (sym e ∙ z)

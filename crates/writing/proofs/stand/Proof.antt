@@ -2,6 +2,7 @@ use borrow.Author.Needs.{needs, sfits-of}
 use Rattle.writing.proofs.stand.Statement.{statement}
 use Rattle.writing.proofs.stand.Tie as tie
 use mathlib.Core.Path.{_≡_, sym, _∙_, ap}
+use mathlib.Core.Logic.{inl}
 use Prim.Native.Nat.{_<_}
 use native.Mathlib.Omega.{arith}
 use mir.Syntax.{w32}
@@ -14,7 +15,7 @@ use Rattle.book_rules.specs.Book.{file-standing, book-view}
 use Rattle.book_rules.proofs.Calls.{length-offer}
 use Rattle.book_rules.proofs.OneCall.{accept-standing}
 use Rattle.book_rules.proofs.Rules.{admitted}
-use Rattle.writing.proofs.OfferParts.{judged, standing-parts, standing-ramps}
+use Rattle.writing.proofs.OfferParts.{judged, standing-parts, offer-uses-five, standing-ramps}
 
 -- The slot as a count, and that it has passed 10.
 count : (c : tie.After-nat) → c .nat .result ≡ toNat (period-word (c .before .before .before .before .before .before .args .bytes .now))
@@ -57,8 +58,14 @@ slice-aggregate-admitted-standing c = search needs
 admitted-standing-requires : tie.Need-admitted-standing-requires
 admitted-standing-requires c κs =
     let s = c .before .before .before .before .before .before .before .before .before .before .before in
-    rw (c .before .before .before .before .before .before .before .before .wide .ensures, count (c .before .before .before .before .before), c .before .before .before .read-offer .ensures)
-    (s .pre .place .tested .usable, s .pre .place .facility-in, s .pre .place .service-in, slot-in s, length-offer (s .args .bytes .now))
+    rw (c .before .before .before .before .before .before .before .before .wide .ensures, count (c .before .before .before .before .before), c .before .before .before .read-offer .ensures) (
+      s .pre .place .tested .usable,
+      s .pre .place .facility-in,
+      s .pre .place .service-in,
+      slot-in s,
+      length-offer (s .args .bytes .now),
+      offer-uses-five (s .args .book .now) (s .args .bytes .now) (s .pre .place .tested) (inl (s .pre .place .call-is)),
+    )
 
 slice-aggregate-file-standing : tie.Need-slice-aggregate-file-standing
 slice-aggregate-file-standing c = search needs

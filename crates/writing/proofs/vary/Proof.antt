@@ -2,6 +2,7 @@ use borrow.Author.Needs.{needs, sfits-of}
 use Rattle.writing.proofs.vary.Statement.{statement}
 use Rattle.writing.proofs.vary.Tie as tie
 use mathlib.Core.Path.{_≡_, refl, sym, _∙_, ap}
+use mathlib.Core.Logic.{inr}
 use Prim.Native.Nat.{_<_}
 use native.Mathlib.Omega.{arith}
 use mir.Syntax.{w32}
@@ -15,7 +16,7 @@ use Rattle.book_rules.specs.Book.{file-variation}
 use Rattle.book_rules.proofs.Calls.{length-offer}
 use Rattle.book_rules.proofs.OneCall.{accept-variation}
 use Rattle.book_rules.proofs.Rules.{admitted}
-use Rattle.writing.proofs.OfferParts.{judged, variation-parts, own-offer-number, own-gate-number, drawn-by-offer, drawn-by-gate, variation-ramps}
+use Rattle.writing.proofs.OfferParts.{judged, variation-parts, own-offer-number, own-gate-number, drawn-by-offer, drawn-by-gate, offer-uses-five, variation-ramps}
 
 -- The period as a count, and that it has passed 10.
 count : (c : tie.After-nat) → c .nat .result ≡ toNat (period-word (c .before .before .before .before .before .before .args .bytes .now))
@@ -63,8 +64,13 @@ slice-aggregate-offer-number c = search needs
 offer-number-requires : tie.Need-offer-number-requires
 offer-number-requires c κs =
     let s = c .before .before .before .before .before .before .before .before .before .before .before .before in
-    rw (c .before .before .before .before .before .before .before .before .before .wide .ensures, c .before .before .before .read-offer .ensures)
-    (s .pre .place .tested .usable, s .pre .place .facility-in, s .pre .place .service-in, length-offer (s .args .bytes .now))
+    rw (c .before .before .before .before .before .before .before .before .before .wide .ensures, c .before .before .before .read-offer .ensures) (
+      s .pre .place .tested .usable,
+      s .pre .place .facility-in,
+      s .pre .place .service-in,
+      length-offer (s .args .bytes .now),
+      offer-uses-five (s .args .book .now) (s .args .bytes .now) (s .pre .place .tested) (inr (s .pre .place .call-is)),
+    )
 
 same-length : tie.Need-same-length
 same-length c = search needs

@@ -1,4 +1,4 @@
-use Rattle.offers.proofs.Pairing.{pairs-lent}
+use Rattle.offers.proofs.Pairing.{pairs-lent, five-suffice}
 use borrow.Author.Needs.{needs}
 use Rattle.offers.proofs.pairs.findings_of.Statement.{statement}
 use Rattle.offers.proofs.pairs.findings_of.Tie as tie
@@ -22,7 +22,11 @@ do-five-suffice-requires : tie.Need-do-five-suffice-requires
 do-five-suffice-requires c κs = search needs
 
 findings-in-requires : tie.Need-findings-in-requires
-findings-in-requires c κs = search needs
+findings-in-requires c κs =
+    let s = c .before .before .before .before in
+    let lowest = c .before .before .before .lowest-price .result in
+    let highest = c .before .before .highest-price .result in
+    (search needs, five-suffice lowest highest (s .args .service) (s .args .offer .now) (s .pre .3) (c .do-five-suffice .result) (c .do-five-suffice .ensures))
 
 returns : tie.Need-returns
 returns c =
