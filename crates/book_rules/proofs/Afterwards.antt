@@ -105,7 +105,7 @@ module _ (w : List ℤ) (b : List ℕ) (accepted : is-accepted w b ≡ true) whe
       ∙ made-back p (now-in w) o (length-offer b) (variation-fits (book-view w) b (n .none-stray) e (passed .judged))
 
 pub held-as-filed : HeldAsFiled
-unfolding HeldAsFiled
+unfolding HeldAsFiled variation-made
 held-as-filed w b a = (standing-held w b a, variation-held w b a)
 
 -- ---- what then stands

@@ -7,17 +7,17 @@ use mathlib.Core.Logic.{_≢_, _⊎_, inl, inr}
 use Prim.Native.Nat.{ℕ, zero, suc, _+_, _-_, _≤_, _<_}
 use native.Mathlib.Omega.{arith}
 use lib.Dec.{leb, ltb, eqb}
-use lib.IntN.{ℤ, pos, negsuc, _+ℤ_, _*ℤ_}
+use lib.IntN.{ℤ, pos, negsuc}
 use lib.Signed.{quotZ, remZ, ltZ}
 use lib.ListN.{length, getD, drop, length-drop}
 use lib.Seq.{getD-drop}
 use borrow.Author.Tests.{eq-eqb, ne-eqb, eqb-true, lt-leb, not-true}
 use Rattle.offer_rules.specs.Numbers.{word, between, beyond, any-beyond}
-use Rattle.offer_rules.specs.Offer.{pairs, Held, accepted-at, all-blank, ramp-beyond, ramp-refused, offer-number}
+use Rattle.offer_rules.specs.Offer.{pairs, Held, accepted-at, all-blank, most-ramp, ramp-beyond, ramp-refused, offer-number}
 use Rattle.offer_rules.proofs.Drawn.{and-false, or-left, or-right, or-false, then-zero, draw-zero}
 use Rattle.offer_rules.proofs.Periods.{within}
 use Rattle.book_rules.specs.Record.{byte, signed, word-at, words-at, call-of, service-of, offer-in, used-by-offer, used, any-stray, has-stray}
-use Rattle.book_rules.specs.Words.{cell, cell-held, holding, ramps-fit, variation-stamp}
+use Rattle.book_rules.specs.Words.{ramp-unit, packed-ramps, cell, cell-held, holding, ramps-fit, variation-stamp}
 use Rattle.book_rules.specs.Force.{variation-made}
 use Rattle.book_rules.specs.Book.{held}
 
@@ -94,11 +94,11 @@ module _ (b : List ℕ) (none-stray : has-stray b ≡ false) (call : (call-of b 
 
 -- ---- an energy offer's ramps
 
-ramp-within : (maximum ramp : ℤ) → ramp-beyond maximum ramp ≡ false → beyond (pos 0) (pos 9999) ramp ≡ false
+ramp-within : (maximum ramp : ℤ) → ramp-beyond maximum ramp ≡ false → beyond (pos 0) most-ramp ramp ≡ false
 unfolding ramp-beyond
 ramp-within maximum ramp e =
-    let t = or-left (beyond (pos 0) maximum ramp) (ltZ (pos 9999) ramp) e in
-    rw (or-left (ltZ ramp (pos 0)) (ltZ maximum ramp) t, or-right (beyond (pos 0) maximum ramp) (ltZ (pos 9999) ramp) e)
+    let t = or-left (beyond (pos 0) maximum ramp) (ltZ most-ramp ramp) e in
+    rw (or-left (ltZ ramp (pos 0)) (ltZ maximum ramp) t, or-right (beyond (pos 0) maximum ramp) (ltZ most-ramp ramp) e)
 
 ramps-sent : (c : List ℤ) (b : List ℕ) → ramp-refused c 0 (offer-in b) ≡ false → ramps-fit (offer-in b) ≡ true
 unfolding offer-in ramp-refused any-beyond
@@ -128,23 +128,31 @@ offer-fits limits c reason b none-stray call e = go (service-of b) refl
 
 -- ---- there and back
 
-unpacked : (u d : ℤ) → beyond (pos 0) (pos 9999) u ≡ false → beyond (pos 0) (pos 9999) d ≡ false
-    → (quotZ (u *ℤ pos 10000 +ℤ d) (pos 10000) ≡ u) × (remZ (u *ℤ pos 10000 +ℤ d) (pos 10000) ≡ d)
+unpacked : (u d : ℤ) → beyond (pos 0) most-ramp u ≡ false → beyond (pos 0) most-ramp d ≡ false
+    → (quotZ (packed-ramps u d) ramp-unit ≡ u) × (remZ (packed-ramps u d) ramp-unit ≡ d)
 unpacked (pos u) (pos d) hu hd =
     let z = within _ _ d hd .1 in
     (ap pos (omega arith), ap pos (omega arith))
 unpacked (pos u) (negsuc d) hu hd = absurd (true≢false hd)
 unpacked (negsuc u) d hu hd = absurd (true≢false hu)
 
+-- Ramps that fit, one by one.
+pub each-fits : (o : List ℤ) → ramps-fit o ≡ true → (beyond (pos 0) most-ramp (word o 1) ≡ false) × (beyond (pos 0) most-ramp (word o 2) ≡ false)
+unfolding any-beyond
+each-fits o e =
+    let t = not-true _ e in
+    let d = or-right (beyond (pos 0) most-ramp (word o 1)) _ t in
+    (or-left (beyond (pos 0) most-ramp (word o 1)) _ t, or-left (beyond (pos 0) most-ramp (word o 2)) _ d)
+
 -- What a cell holds is read back.
 pub cell-back : (stamp now : ℕ) (o : List ℤ) → length o ≡ 23 → ramps-fit o ≡ true → cell-held (cell stamp (accepted-at now o)) ≡ accepted-at now o
-unfolding cell cell-held any-beyond
+unfolding cell cell-held
 cell-back stamp now [] n e = absurd (omega arith)
 cell-back stamp now (p ∷ []) n e = absurd (omega arith)
 cell-back stamp now (p ∷ (u ∷ [])) n e = absurd (omega arith)
 cell-back stamp now (p ∷ (u ∷ (d ∷ l))) n e =
-    let t = not-true _ e in
-    let back = unpacked u d (or-left (beyond (pos 0) (pos 9999) u) _ t) (or-left (beyond (pos 0) (pos 9999) d) _ (or-right (beyond (pos 0) (pos 9999) u) _ t)) in
+    let fit = each-fits (p ∷ (u ∷ (d ∷ l))) e in
+    let back = unpacked u d (fit .0) (fit .1) in
     λ i. record { offer = p ∷ (back .0 i ∷ (back .1 i ∷ l)); minute = pos now }
 
 -- What is held under a stamp other than 0, which an empty cell has, is read back.

@@ -51,10 +51,11 @@ book-view w = record {
 
 -- ---- what an accepted call writes
 
--- "An accepted offer writes one cell's 24 words and no other word." "Each cell keeps the minute of its acceptance" (document 02).
+-- "An accepted offer writes one cell's 24 words and no other word."
 unfoldable pub write-cell : List ℤ → ℕ → ℕ → ℕ → ℕ → List ℤ → List ℤ
 write-cell w f s h k c = put w (cell-place (facilities-in w) (services-in w) f s h k) c
 
+-- "Each cell keeps the minute of its acceptance" (document 02).
 abbrev pub file-standing : List ℤ → ℕ → ℕ → ℕ → List ℤ → List ℤ
 file-standing w f s k o = write-cell w f s standing-half k (cell standing-stamp (accepted-at (now-in w) o))
 

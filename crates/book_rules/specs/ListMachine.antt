@@ -70,6 +70,7 @@ list-view F S limits l = record {
 abbrev pub list-accept : List (List ℕ) → List ℕ → List (List ℕ)
 list-accept l b = b ∷ l
 
+-- "its word 0 follows the same rule" (document 02): the rules answer over what the list shows.
 module _ (F S : ℕ) (limits : List ℤ) where
   abbrev pub list-answer : List (List ℕ) → List ℕ → Answer
   list-answer = answer (List (List ℕ)) (list-view F S limits) list-accept

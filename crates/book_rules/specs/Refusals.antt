@@ -90,10 +90,14 @@ equal-words [] (y ∷ m) = false
 equal-words (x ∷ l) [] = false
 equal-words (x ∷ l) (y ∷ m) = eqZ x y && equal-words l m
 
--- 17 and 18 of a standing offer: "A first one always passes the gate."
+-- 17 and 18 of a standing offer over a held one, the same as it or not
+unfoldable pub over-held : ℕ → ℕ → Bool → ℕ
+over-held now k same = draw (standing-gate-refuses now k) 17 then draw same 18
+
+-- "A first one always passes the gate."
 unfoldable pub revision-number : ℕ → ℕ → Option Held → List ℤ → ℕ
 revision-number now k none o = 0
-revision-number now k (some h) o = draw (standing-gate-refuses now k) 17 then draw (equal-words (h .offer) o) 18
+revision-number now k (some h) o = over-held now k (equal-words (h .offer) o)
 
 -- 17 of a variation
 unfoldable pub grounds : View → ℕ → Grounds

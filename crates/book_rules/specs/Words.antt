@@ -9,7 +9,7 @@ use lib.Signed.{leZ, quotZ, remZ}
 use lib.ListN.{length, take, drop}
 use Rattle.offer_rules.specs.Numbers.{eqZ, toNat, word, zeros, beyond, any-beyond, draw}
 use Rattle.offer_rules.specs.Time.{slots}
-use Rattle.offer_rules.specs.Offer.{proportion, ramp-up, ramp-down, Held}
+use Rattle.offer_rules.specs.Offer.{proportion, ramp-up, ramp-down, Held, most-ramp}
 use Rattle.book_rules.specs.Record.{sizes-ok}
 
 -- n words from a on.
@@ -64,9 +64,12 @@ variation-half = 1
 abbrev pub ramp-unit : ℤ
 ramp-unit = pos 10000
 
+abbrev pub packed-ramps : ℤ → ℤ → ℤ
+packed-ramps up down = up *ℤ ramp-unit +ℤ down
+
 -- A stamp and a held offer as a cell's words.
 unfoldable pub cell : ℕ → Held → List ℤ
-cell stamp h = let o = h .offer in pos stamp ∷ (proportion o ∷ ((ramp-up o *ℤ ramp-unit +ℤ ramp-down o) ∷ (h .minute ∷ drop 3 o)))
+cell stamp h = let o = h .offer in pos stamp ∷ (proportion o ∷ (packed-ramps (ramp-up o) (ramp-down o) ∷ (h .minute ∷ drop 3 o)))
 
 -- The stamp and the held offer of a cell's words. "On a damaged word 2 the ramps are quotient and remainder rounded toward zero" (document 02).
 abbrev pub cell-stamp : List ℤ → ℤ
@@ -80,7 +83,7 @@ cell-held c = record {
 
 -- Ramps that come back from word 2 as they went in: refusals 4 and 14 leave no others (Claims, HeldAsFiled).
 abbrev pub ramps-fit : List ℤ → Bool
-ramps-fit o = not (any-beyond (pos 0) (pos 9999) o 1 2)
+ramps-fit o = not (any-beyond (pos 0) most-ramp o 1 2)
 
 -- A cell that holds an offer under a stamp; where there is none to hold, "Its cell becomes 24 zeros" (document 02).
 unfoldable pub holding : ℕ → Option Held → List ℤ

@@ -5,7 +5,7 @@ use mathlib.Core.List.{List, [], _∷_, map}
 use lib.ListN.{getD, List·getD-map}
 use Rattle.offer_rules.specs.Gate.{same-prices-to}
 use Rattle.cases.specs.Records.{_at_}
-use Rattle.cases.specs.Cases.{Line, Case, answer-in, first-case, cases, EveryCase, RampsShown}
+use Rattle.cases.specs.Cases.{Line, Case, answer-in, first-case, cases, EveryCase, RampsShown, CellWords}
 use Rattle.cases.proofs.Computes.{computes}
 
 all-answered : map answer-in cases ≡ map (λ c. c .answered) cases
@@ -22,6 +22,10 @@ every-case i =
 pub ramps-are-shown : RampsShown
 unfolding computes RampsShown
 ramps-are-shown = (refl, refl)
+
+pub cell-words : CellWords
+unfolding computes CellWords
+cell-words = (refl, refl)
 
 -- "the 451st tenth differs", and none before it.
 pub the-451st-differs :

@@ -3,7 +3,7 @@ use mathlib.Core.Path.{_≡_, refl, sym, ap, ap₂, _∙_}
 use mathlib.Core.Bool.{cond}
 use mathlib.Core.List.{List, [], _∷_}
 use mathlib.Core.Option.{Option, none, some}
-use Prim.Native.Nat.{ℕ, _+_, _-_, _≤_, _<_}
+use Prim.Native.Nat.{ℕ, _+_, _-_, _≤_}
 use native.Mathlib.Omega.{arith}
 use native.Mathlib.Nat.{add-zero}
 use lib.IntN.{ℤ, pos}
@@ -83,10 +83,6 @@ pairs-lent at w =
     past-four (a ∷ (b ∷ [])) = refl
     past-four (a ∷ (b ∷ (c ∷ []))) = refl
     past-four (a ∷ (b ∷ (c ∷ (d ∷ l)))) = refl
-
--- Its words before the pairs.
-pub term-at : (at i : ℕ) (w : List ℤ) → i < 24 → word (part at 24 w) i ≡ word w (at + i)
-term-at at i w h = word-of-part at 24 i w h
 
 -- The words after an offer's first three are those of its pairs, as they are lent.
 pub tail-lent : (l : List ℤ) (n : ℕ) → length l ≡ n → take (n - 3) (drop 3 l) ≡ drop 3 l

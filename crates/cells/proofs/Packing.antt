@@ -1,7 +1,6 @@
 -- Two ramps as one word, and a word as two ramps; an age in 64 bits.
 use mathlib.Core.Path.{_≡_, refl, ap₂, _∙_}
 use mathlib.Core.Bool.{true, false, true≢false}
-use mathlib.Core.List.{List}
 use Prim.Native.Nat.{ℕ, zero, suc, _/_, _≤_, _<_}
 use native.Mathlib.Omega.{arith}
 use lib.IntN.{ℤ, pos, negsuc, negℤ, _+ℤ_, _-ℤ_, _*ℤ_, natAbs}
@@ -10,11 +9,8 @@ use mir.Syntax.{w32, w64}
 use mir.Val.{ofZ, toZ, SFits}
 use mir.Facts.{toZ-ofZ, toZ-pos, sfits-lit}
 use borrow.Author.Needs.{sfits-of}
-use borrow.Author.Tests.{not-true}
-use Rattle.offer_rules.specs.Numbers.{word, beyond, any-beyond}
-use Rattle.offer_rules.proofs.Drawn.{or-left, or-right}
+use Rattle.offer_rules.specs.Numbers.{word, beyond}
 use Rattle.offer_rules.proofs.Periods.{within}
-use Rattle.book_rules.specs.Words.{ramps-fit}
 use Rattle.units.proofs.Adding.{abs-add, abs-fits, cast-fits}
 use Rattle.units.proofs.Counts.{word-back}
 
@@ -42,14 +38,6 @@ module _ (u d : ℤ) (fu : SFits w32 u) (fd : SFits w32 d) (hu : beyond (pos 0) 
 
   pub packed-back : back (back (back u *ℤ pos 10000) +ℤ back d) ≡ u *ℤ pos 10000 +ℤ d
   packed-back = toZ-ofZ {w = w32} packed-fits ∙ packed-is
-
--- Ramps that fit, one by one.
-pub each-fits : (o : List ℤ) → ramps-fit o ≡ true → (beyond (pos 0) (pos 9999) (word o 1) ≡ false) × (beyond (pos 0) (pos 9999) (word o 2) ≡ false)
-unfolding any-beyond
-each-fits o e =
-    let t = not-true _ e in
-    let d = or-right (beyond (pos 0) (pos 9999) (word o 1)) _ t in
-    (or-left (beyond (pos 0) (pos 9999) (word o 1)) _ t, or-left (beyond (pos 0) (pos 9999) (word o 2)) _ d)
 
 -- ---- a word as two ramps
 

@@ -5,12 +5,12 @@ ghost use mathlib.Core.Bool.{true, false, cond};
 ghost use mathlib.Core.List.{[], _∷_};
 ghost use mathlib.Core.Option.{none};
 ghost use Prim.Native.Nat.{_+_, _≤_, _<_};
-ghost use lib.IntN.{pos, natAbs, _+ℤ_, _*ℤ_};
+ghost use lib.IntN.{pos, natAbs, _+ℤ_};
 ghost use lib.ListN.{length, drop};
 ghost use Rattle.offer_rules.specs.Numbers.{eqZ, word, beyond};
 ghost use Rattle.offer_rules.specs.Time.{is-fresh};
-ghost use Rattle.offer_rules.specs.Offer.{pairs-in, proportion, ramp-up, ramp-down, accepted-at};
-ghost use Rattle.book_rules.specs.Words.{put, book-size, cell-place, ramp-unit, ramps-fit, cell};
+ghost use Rattle.offer_rules.specs.Offer.{pairs-in, proportion, ramp-up, ramp-down, accepted-at, most-ramp};
+ghost use Rattle.book_rules.specs.Words.{put, book-size, cell-place, packed-ramps, ramps-fit, cell};
 ghost use Rattle.book_rules.specs.Force.{first-of, in-force, pairs-of, counted, offered, plain, found};
 ghost use Rattle.book_rules.specs.Refusals.{equal-words, total-reply};
 ghost use Rattle.book_rules.specs.Book.{book-view};
@@ -48,8 +48,8 @@ fn cell_place(
 
 // "ramp up times 10,000 plus ramp down"
 fn packed_ramps(up: i32, down: i32) -> i32
-    requires { ⌜ (beyond (pos 0) (pos 9999) up ≡ false) × (beyond (pos 0) (pos 9999) down ≡ false) ⌝ }
-    ensures { λ r. ⌜ r ≡ up *ℤ ramp-unit +ℤ down ⌝ }
+    requires { ⌜ (beyond (pos 0) most-ramp up ≡ false) × (beyond (pos 0) most-ramp down ≡ false) ⌝ }
+    ensures { λ r. ⌜ r ≡ packed-ramps up down ⌝ }
 {
     up * cell::RAMP_UNIT + down
 }

@@ -6,12 +6,12 @@ use mathlib.Core.Option.{Option, none, some}
 use Prim.Native.Nat.{ℕ}
 use native.Mathlib.Omega.{arith}
 use lib.IntN.{ℤ}
-use Rattle.offer_rules.specs.Numbers.{draw, _then_}
+use Rattle.offer_rules.specs.Numbers.{draw}
 use Rattle.offer_rules.specs.Time.{slot-of}
 use Rattle.offer_rules.specs.Offer.{Pair, pairs, Held, all-blank}
-use Rattle.offer_rules.specs.Gate.{Grounds, is-open, gate-refuses, standing-gate-refuses}
+use Rattle.offer_rules.specs.Gate.{Grounds, is-open, gate-refuses}
 use Rattle.book_rules.specs.Force.{View, first-of, variation-made, will-stand, pairs-of}
-use Rattle.book_rules.specs.Refusals.{equal-words, revision-number, gate-number}
+use Rattle.book_rules.specs.Refusals.{equal-words, over-held, revision-number, gate-number}
 use Rattle.cells.specs.declared.InForce as place
 use Rattle.cells.specs.declared.InForce.the-variants.{Nothing, Standing, Variation}
 use Rattle.cells.specs.Meaning.{held-at, meaning, is-nothing, is-same-offer}
@@ -26,12 +26,12 @@ module _ (w : List ℤ) where
 
   -- 17 and 18 over what is held.
   pub one-held : (x : place.InForce) (held : Option Held) (now k : ℕ) (o : List ℤ) → meaning w x ≡ first-of none held → is-nothing x ≡ false
-      → (draw (standing-gate-refuses now k) 17 then draw (is-same-offer (meaning w x) o) 18) ≡ revision-number now k held o
+      → over-held now k (is-same-offer (meaning w x) o) ≡ revision-number now k held o
   unfolding meaning first-of is-nothing is-same-offer revision-number
   one-held Nothing held now k o e n = absurd (true≢false n)
   one-held (Standing at) none now k o e n = let z : _≡_ {A = ℕ} 0 1 = cc e in absurd (omega arith)
   one-held (Standing at) (some h) now k o e n =
-      let q : held-at w at ≡ h = cc e in ap (λ (x : Held). draw (standing-gate-refuses now k) 17 then draw (equal-words (x .offer) o) 18) q
+      let q : held-at w at ≡ h = cc e in ap (λ (x : Held). over-held now k (equal-words (x .offer) o)) q
   one-held (Variation at) none now k o e n = let z : _≡_ {A = ℕ} 0 1 = cc e in absurd (omega arith)
   one-held (Variation at) (some h) now k o e n = let z : _≡_ {A = ℕ} 0 1 = cc e in absurd (omega arith)
 

@@ -126,8 +126,11 @@ rises (x ∷ []) = true
 rises (x ∷ (y ∷ l)) = ltZ x y && rises (y ∷ l)
 
 -- 14 "energy ramp outside 0 to its maximum"; "also covers a ramp above 9,999" (document 02)
+abbrev pub most-ramp : ℤ
+most-ramp = pos 9999
+
 unfoldable pub ramp-beyond : ℤ → ℤ → Bool
-ramp-beyond maximum ramp = beyond (pos 0) maximum ramp || ltZ (pos 9999) ramp
+ramp-beyond maximum ramp = beyond (pos 0) maximum ramp || ltZ most-ramp ramp
 
 unfoldable pub ramp-refused : List ℤ → ℕ → List ℤ → Bool
 ramp-refused c s o = is-energy s && (ramp-beyond (max-ramp-up c) (ramp-up o) || ramp-beyond (max-ramp-down c) (ramp-down o))

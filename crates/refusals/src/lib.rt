@@ -7,9 +7,8 @@ ghost use lib.IntN.{pos};
 ghost use lib.ListN.{length};
 ghost use Rattle.offer_rules.specs.Numbers.{eqZ, toNat, word, draw, _then_};
 ghost use Rattle.offer_rules.specs.Kinds.{is-in};
-ghost use Rattle.offer_rules.specs.Gate.{standing-gate-refuses};
 ghost use Rattle.kinds.specs.Meaning.{range-of};
-ghost use Rattle.book_rules.specs.Refusals.{facility-number, clock-number, outage-number, notice-number, withdrawal-number, is-registered, kind-refused, maxima-refused, any-mark-astray, marks-refused, capability-number, registration-number};
+ghost use Rattle.book_rules.specs.Refusals.{facility-number, clock-number, outage-number, notice-number, withdrawal-number, is-registered, kind-refused, maxima-refused, any-mark-astray, marks-refused, capability-number, registration-number, over-held};
 use gate::standing_gate_refuses;
 use kinds::Range;
 use kinds::is_in;
@@ -19,6 +18,7 @@ use kinds::marks;
 use kinds::may_offer;
 use layout::facility;
 use layout::fields;
+use layout::offer;
 use layout::refusal;
 use layout::time;
 use units::any_beyond;
@@ -135,7 +135,7 @@ fn is_maximum_refused(sent: &[i32]) -> bool
     ensures { λ r. ⌜ r ≡ maxima-refused (now (sent .entry)) ⌝ }
 {
     let maximum = any_beyond(sent, facility::MAX_GENERATION, 6, 0, 99999);
-    let ramp = any_beyond(sent, facility::MAX_RAMP_UP, 2, 0, 9999);
+    let ramp = any_beyond(sent, facility::MAX_RAMP_UP, 2, 0, offer::MOST_RAMP);
     let proportion = any_beyond(sent, facility::MAX_PROPORTION, 3, 0, 1000);
     (maximum | ramp) | proportion
 }
@@ -204,7 +204,7 @@ pub fn registration_number(capability: &[i32], service: u8) -> u8
 // 17, then 18 where it is equal to the held one.
 pub fn revision_number(clock: u64, slot: u64, same: bool) -> u8
     requires { ⌜ (clock ≤ 1000000000) × (slot < 336) ⌝ }
-    ensures { λ r. ⌜ (r ≡ (draw (standing-gate-refuses clock slot) 17 then draw same 18)) × (r ≤ 18) ⌝ }
+    ensures { λ r. ⌜ (r ≡ over-held clock slot same) × (r ≤ 18) ⌝ }
 {
     let gate = draw_if(standing_gate_refuses(clock, slot), refusal::GATE_CLOSED);
     first_drawn(gate, draw_if(same, refusal::DUPLICATE))

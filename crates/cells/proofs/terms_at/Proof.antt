@@ -6,10 +6,10 @@ use lib.Signed.{quotZ, remZ}
 use borrow.Author.Needs.{needs}
 use Rattle.offer_rules.specs.Numbers.{word}
 use Rattle.book_rules.specs.Words.{cell-held}
+use Rattle.book_rules.proofs.Parts.{word-of-part}
 use Rattle.units.proofs.Counts.{word-back}
 use Rattle.cells.specs.Meaning.{held-at}
 use Rattle.cells.proofs.Packing.{quotient-fits, quotient-back, remainder-back}
-use Rattle.cells.proofs.Holding.{term-at}
 use Rattle.cells.proofs.terms_at.Statement.{statement}
 use Rattle.cells.proofs.terms_at.Tie as tie
 
@@ -76,10 +76,10 @@ returns c =
     let s = c .before .before .before .before in
     let w = s .args .book .now in
     let at = s .args .at in (
-      word-back (word w (at + 1)) (c .before .before .before .t6 .given) ∙ sym (term-at at 1 w (omega arith)),
-      quotient-back (word w (at + 2)) (c .before .before .t10 .given) ∙ ap (λ (z : ℤ). quotZ z (pos 10000)) (sym (term-at at 2 w (omega arith))),
-      remainder-back (word w (at + 2)) (c .before .t15 .given) ∙ ap (λ (z : ℤ). remZ z (pos 10000)) (sym (term-at at 2 w (omega arith))),
-      word-back (word w (at + 3)) (c .t20 .given) ∙ sym (term-at at 3 w (omega arith)),
+      word-back (word w (at + 1)) (c .before .before .before .t6 .given) ∙ sym (word-of-part at 24 1 w (omega arith)),
+      quotient-back (word w (at + 2)) (c .before .before .t10 .given) ∙ ap (λ (z : ℤ). quotZ z (pos 10000)) (sym (word-of-part at 24 2 w (omega arith))),
+      remainder-back (word w (at + 2)) (c .before .t15 .given) ∙ ap (λ (z : ℤ). remZ z (pos 10000)) (sym (word-of-part at 24 2 w (omega arith))),
+      word-back (word w (at + 3)) (c .t20 .given) ∙ sym (word-of-part at 24 3 w (omega arith)),
     )
 
 pub terms-at-spec : {M : Type 1} → statement M

@@ -6,13 +6,12 @@ use mathlib.Core.Bool.{Bool}
 use mathlib.Core.Option.{Option, none}
 use Prim.Native.Nat.{ℕ}
 use native.Mathlib.Omega.{arith}
-use Rattle.offer_rules.specs.Numbers.{toNat, word, draw, _then_}
+use Rattle.offer_rules.specs.Numbers.{toNat, word}
 use Rattle.offer_rules.specs.Offer.{Held, offer-number}
-use Rattle.offer_rules.specs.Gate.{standing-gate-refuses}
 use Rattle.units.proofs.Chains.{then-none, then-drawn}
 use Rattle.book_rules.specs.Words.{part, clock-place, limits-place, facility-place}
 use Rattle.book_rules.specs.Force.{first-of}
-use Rattle.book_rules.specs.Refusals.{revision-number, admitted-standing}
+use Rattle.book_rules.specs.Refusals.{over-held, revision-number, admitted-standing}
 use Rattle.book_rules.specs.Book.{book-view}
 use Rattle.cells.specs.Meaning.{meaning}
 use Rattle.judging.proofs.Stages.{nothing-held, one-held}
@@ -87,7 +86,7 @@ returns-3 c =
     let now = toNat (word w clock-place) in
     let held = one-held w (h .held-standing .result) (book-view w .standing (s .args .f) (s .args .service) k) now k o (found h) (sym (c .before .before .before .before .is-nothing .ensures) ∙ c .before .before .before .if2 .left) in (
       c .revision-number .ensures .0
-          ∙ ap₂ (λ (n : ℕ) (same : Bool). draw (standing-gate-refuses n k) 17 then draw same 18) (c .before .clock .ensures .0) (c .before .before .is-same-offer .ensures)
+          ∙ ap₂ (λ (n : ℕ) (same : Bool). over-held n k same) (c .before .clock .ensures .0) (c .before .before .is-same-offer .ensures)
           ∙ held
           ∙ sym (then-none _ _ (passed (h .before .before .before .before))),
       c .revision-number .ensures .1,

@@ -2,6 +2,7 @@
 use mathlib.Core.Path.{_∙_}
 use native.Mathlib.Omega.{arith}
 use borrow.Author.Needs.{needs}
+use Rattle.book_rules.specs.Refusals.{over-held}
 use Rattle.refusals.proofs.revision_number.Statement.{statement}
 use Rattle.refusals.proofs.revision_number.Tie as tie
 
@@ -18,6 +19,7 @@ first-drawn-requires : tie.Need-first-drawn-requires
 first-drawn-requires c κs = search needs
 
 returns : tie.Need-returns
+unfolding over-held
 returns c = (
   c .first-drawn .ensures .0
       ∙ rw (
