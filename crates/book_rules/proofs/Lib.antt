@@ -14,3 +14,4 @@ pub mod ByKind
 pub mod ByNumber
 pub mod OneCall
 pub mod Afterwards
+pub mod Ageless

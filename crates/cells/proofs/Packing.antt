@@ -1,6 +1,6 @@
 -- Two ramps as one word, and a word as two ramps; an age in 64 bits.
 use mathlib.Core.Path.{_≡_, refl, ap₂, _∙_}
-use mathlib.Core.Bool.{true, false, true≢false}
+use mathlib.Core.Bool.{false, true≢false}
 use Prim.Native.Nat.{ℕ, zero, suc, _/_, _≤_, _<_}
 use native.Mathlib.Omega.{arith}
 use lib.IntN.{ℤ, pos, negsuc, negℤ, _+ℤ_, _-ℤ_, _*ℤ_, natAbs}
@@ -9,40 +9,42 @@ use mir.Syntax.{w32, w64}
 use mir.Val.{ofZ, toZ, SFits}
 use mir.Facts.{toZ-ofZ, toZ-pos, sfits-lit}
 use borrow.Author.Needs.{sfits-of}
-use Rattle.offer_rules.specs.Numbers.{word, beyond}
+use Rattle.offer_rules.specs.Numbers.{beyond}
+use Rattle.offer_rules.specs.Offer.{most-ramp}
 use Rattle.offer_rules.proofs.Periods.{within}
+use Rattle.book_rules.specs.Words.{ramp-unit, packed-ramps}
 use Rattle.units.proofs.Adding.{abs-add, abs-fits, cast-fits}
 use Rattle.units.proofs.Counts.{word-back}
 
 abbrev back : ℤ → ℤ
 back z = toZ w32 (ofZ w32 z)
 
-module _ (u d : ℤ) (fu : SFits w32 u) (fd : SFits w32 d) (hu : beyond (pos 0) (pos 9999) u ≡ false) (hd : beyond (pos 0) (pos 9999) d ≡ false) where
-  times : (u : ℤ) → beyond (pos 0) (pos 9999) u ≡ false → SFits w32 (u *ℤ pos 10000)
+module _ (u d : ℤ) (fu : SFits w32 u) (fd : SFits w32 d) (hu : beyond (pos 0) most-ramp u ≡ false) (hd : beyond (pos 0) most-ramp d ≡ false) where
+  times : (u : ℤ) → beyond (pos 0) most-ramp u ≡ false → SFits w32 (u *ℤ ramp-unit)
   times (pos u) h = sfits-of (omega (arith, within _ _ u h .1))
   times (negsuc u) h = absurd (true≢false h)
 
-  plus : (u d : ℤ) → beyond (pos 0) (pos 9999) u ≡ false → beyond (pos 0) (pos 9999) d ≡ false → SFits w32 (u *ℤ pos 10000 +ℤ d)
+  plus : (u d : ℤ) → beyond (pos 0) most-ramp u ≡ false → beyond (pos 0) most-ramp d ≡ false → SFits w32 (packed-ramps u d)
   plus (pos u) (pos d) h k = sfits-of (omega (arith, within _ _ u h .1, within _ _ d k .1))
   plus (pos u) (negsuc d) h k = absurd (true≢false k)
   plus (negsuc u) d h k = absurd (true≢false h)
 
-  pub product-fits : SFits w32 (back u *ℤ pos 10000)
+  pub product-fits : SFits w32 (back u *ℤ ramp-unit)
   product-fits = rw (toZ-ofZ {w = w32} fu) (times u hu)
 
-  packed-is : back (back u *ℤ pos 10000) +ℤ back d ≡ u *ℤ pos 10000 +ℤ d
+  packed-is : back (back u *ℤ ramp-unit) +ℤ back d ≡ packed-ramps u d
   packed-is = rw (toZ-ofZ {w = w32} fu, toZ-ofZ {w = w32} fd, toZ-ofZ {w = w32} (times u hu))
 
-  pub packed-fits : SFits w32 (back (back u *ℤ pos 10000) +ℤ back d)
+  pub packed-fits : SFits w32 (back (back u *ℤ ramp-unit) +ℤ back d)
   packed-fits = rw packed-is (plus u d hu hd)
 
-  pub packed-back : back (back (back u *ℤ pos 10000) +ℤ back d) ≡ u *ℤ pos 10000 +ℤ d
+  pub packed-back : back (back (back u *ℤ ramp-unit) +ℤ back d) ≡ packed-ramps u d
   packed-back = toZ-ofZ {w = w32} packed-fits ∙ packed-is
 
 -- ---- a word as two ramps
 
 -- A quotient by 10,000 fits where the word does.
-quotient-small : (z : ℤ) → mag (quotZ z (pos 10000)) ≤ mag z
+quotient-small : (z : ℤ) → mag (quotZ z ramp-unit) ≤ mag z
 quotient-small (pos a) = omega arith
 quotient-small (negsuc a) = mag-neg (suc a / 10000) a (omega arith)
   where
@@ -51,14 +53,14 @@ quotient-small (negsuc a) = mag-neg (suc a / 10000) a (omega arith)
     mag-neg (suc q) a h = omega arith
 
 module _ (z : ℤ) (fz : mag z < 2147483648) where
-  pub quotient-fits : SFits w32 (quotZ (back z) (pos 10000))
+  pub quotient-fits : SFits w32 (quotZ (back z) ramp-unit)
   quotient-fits = rw (word-back z fz) (sfits-of (omega (arith, quotient-small z)))
 
-  pub quotient-back : back (quotZ (back z) (pos 10000)) ≡ quotZ z (pos 10000)
+  pub quotient-back : back (quotZ (back z) ramp-unit) ≡ quotZ z ramp-unit
   quotient-back = toZ-ofZ {w = w32} quotient-fits ∙ rw (word-back z fz)
 
-  pub remainder-back : back (remZ (back z) (pos 10000)) ≡ remZ z (pos 10000)
-  remainder-back = rw (word-back z fz) (toZ-ofZ {w = w32} (sfits-of (omega (arith, mag-rem z (pos 10000)))))
+  pub remainder-back : back (remZ (back z) ramp-unit) ≡ remZ z ramp-unit
+  remainder-back = rw (word-back z fz) (toZ-ofZ {w = w32} (sfits-of (omega (arith, mag-rem z ramp-unit))))
 
 -- ---- an age
 
