@@ -198,8 +198,8 @@ enum {
  * A fresh offer was accepted less than BILZHAAN_SCHEDULE_CUTOFF_MINUTES before the book's clock, and so isn't guaranteed to
  * be used in a market schedule produced at that minute. A filing that is refused makes nothing fresh, a duplicate (18)
  * neither; a variation filed again unchanged is fresh again; after a take-back the standing offer goes by its own minute.
- * Both minutes are the book's clock: file it every minute, before offers and look-ups. An offer filed while the clock is
- * three minutes behind stops being fresh three minutes too soon. */
+ * Both minutes, of the acceptance and of the look-up, are the book's clock: file it every minute, before offers and
+ * look-ups. An offer filed while the clock is three minutes behind stops being fresh three minutes too soon. */
 enum {
     BILZHAAN_STANDING_IN_FORCE = 1,
     BILZHAAN_VARIATION_IN_FORCE = 2,
