@@ -90,6 +90,7 @@ struct kind {
     size_t hot_count, scattered_count, length;
     int32_t facilities, services; /* for the opening */
     bool of_links; /* on the book of links */
+    int32_t first; /* of a look-up: word 0 */
 };
 
 static struct kind kinds[52];
@@ -377,10 +378,11 @@ static void make_kinds(void)
     add_one("6 notice, empty", 7, notice_of(BILZHAAN_NOTICE_SHORTFALL, FIRST_PERIOD + 4, FIRST_PERIOD));
     add_one("7 withdrawal", 0, withdrawal_of(BILZHAAN_NOTICE_SYSTEM_STATUS));
     add_one("7 withdrawal, another kind", 7, withdrawal_of(BILZHAAN_NOTICE_SHORTFALL));
-    add_calls("8 look-up, variation", 0, earlier_keys, keys, 1, look_up_for);
-    add_calls("8 look-up, variation, fresh", 0, energy_keys, keys, 1, look_up_for);
-    add_calls("8 look-up, standing", 0, read_keys, keys, 1, look_up_for);
-    add_calls("8 look-up, standing, fresh", 0, back_keys, keys, 1, look_up_for); /* its variation was taken back above */
+    add_calls("8 look-up, variation", 0, earlier_keys, keys, 1, look_up_for)->first = BILZHAAN_VARIATION_IN_FORCE;
+    add_calls("8 look-up, variation, fresh", 0, energy_keys, keys, 1, look_up_for)->first = BILZHAAN_FRESH_VARIATION_IN_FORCE;
+    add_calls("8 look-up, standing", 0, read_keys, keys, 1, look_up_for)->first = BILZHAAN_STANDING_IN_FORCE;
+    add_calls("8 look-up, standing, fresh", 0, back_keys, keys, 1, look_up_for)->first
+        = BILZHAAN_FRESH_STANDING_IN_FORCE; /* its variation was taken back above */
     add_calls("8 look-up, nothing in force", 19, energy_keys, keys, 1, nothing_for);
     add_calls("8 look-up, period begun", 10, energy_keys, keys, 1, begun_look_up_for);
     add_calls("9 total, 64 facilities", 0, total_keys, TOTAL_KEYS, 1, total_for);
@@ -497,12 +499,30 @@ static void set_up_links(const struct subject *who)
         file_in(who, who->links, standing_for(link_gate_keys[i], 0));
 }
 
+static void unexpected(const struct kind *kind, const struct subject *who)
+{
+    fprintf(stderr, "%s, %s: the answers are not the expected ones\n", kind->name, who->name);
+    exit(1);
+}
+
+/* Word 0 of each look-up on each book, outside the loop that is measured: look-ups store nothing. */
+static void check_first_words(const struct kind *kind, const struct record *records, size_t count)
+{
+    size_t words = BILZHAAN_BOOK_WORDS(F, S);
+    for (const struct subject *who = subjects; who < subjects + BOOKS; who++)
+        for (size_t i = 0; i < count; i++)
+            if (who->call(who->words, words, records[i].bytes, kind->length).words[0] != kind->first)
+                unexpected(kind, who);
+}
+
 /* One kind on every subject, `rounds` times; the least time counts. Each round begins with another subject, so that
  * between two turns of any of them all the others have had theirs. */
 static void measure(const struct kind *kind, const char *where, const struct record *records, size_t count, size_t calls,
                     int rounds)
 {
     size_t at[SUBJECTS] = {0};
+    if (kind->first != 0)
+        check_first_words(kind, records, count);
     for (int round = 0; round < rounds; round++) {
         uint64_t seen[SUBJECTS];
         for (int turn = 0; turn < SUBJECTS; turn++) {
@@ -515,12 +535,9 @@ static void measure(const struct kind *kind, const char *where, const struct rec
             if (round == 0 || each < subjects[i].best)
                 subjects[i].best = each;
         }
-        for (int i = 0; i < BOOKS; i++) {
-            if (seen[i] >> 40 != 0 || seen[i] != seen[0]) {
-                fprintf(stderr, "%s, %s: the answers are not the expected ones\n", kind->name, subjects[i].name);
-                exit(1);
-            }
-        }
+        for (int i = 0; i < BOOKS; i++)
+            if (seen[i] >> 40 != 0 || seen[i] != seen[0])
+                unexpected(kind, &subjects[i]);
     }
     for (int i = 0; i < SUBJECTS; i++)
         printf("%s\t%s\t%s\t%zu\t%.3f\n", kind->name, where, subjects[i].name, calls, subjects[i].best);
@@ -554,7 +571,7 @@ int main(int argc, char **argv)
     static const char *const names[2] = {"opening, 16,224 words", "opening, 5,163,072 words"};
     for (int i = 0; i < 2; i++) {
         struct record unused = clock_at(0);
-        struct kind k = {names[i], OPENING, 0, &unused, NULL, 1, 0, 0, sizes[i][0], sizes[i][1], false};
+        struct kind k = {names[i], OPENING, 0, &unused, NULL, 1, 0, 0, sizes[i][0], sizes[i][1], false, 0};
         measure(&k, "hot", &unused, 1, instructions ? 1 : i == 0 ? 256 : 4, rounds);
     }
     return 0;

@@ -35,7 +35,7 @@ static void print_in_force(const char *name, int32_t facility, int32_t service, 
         return;
     }
     printf("%s, %.1f MW%s\n", bilzhaan_is_variation(&answer) ? "a variation" : "the standing offer",
-           (double)answer.sum / 10, bilzhaan_is_fresh(&answer) ? ", not sure to be in the schedule yet" : "");
+           (double)answer.sum / 10, bilzhaan_is_fresh(&answer) ? ", too fresh to be sure of the schedule" : "");
     const struct bilzhaan_offer offer = bilzhaan_answered_offer(&answer);
     for (int i = 0; i < BILZHAAN_PAIRS_ENERGY; i++)
         if (offer.pairs[i].quantity != 0)

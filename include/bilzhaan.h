@@ -192,9 +192,14 @@ enum {
     BILZHAAN_ANSWER_PAIRS = 4       /* ten pairs: pair i is word 4 + 2i, the price, and 5 + 2i, the quantity */
 };
 
-/* A fresh offer was accepted less than BILZHAAN_SCHEDULE_CUTOFF_MINUTES before the book's clock, and so isn't guaranteed to
+/* Two questions in one word: a variation is in force at 2 and at 4, the standing offer at 1 and at 3. A comparison with one
+ * value alone takes a fresh variation for a standing offer; bilzhaan_is_variation and bilzhaan_is_fresh
+ * (bilzhaan_record.h) ask each.
+ * A fresh offer was accepted less than BILZHAAN_SCHEDULE_CUTOFF_MINUTES before the book's clock, and so isn't guaranteed to
  * be used in a market schedule produced at that minute. A filing that is refused makes nothing fresh, a duplicate (18)
- * neither; a variation filed again unchanged is fresh again; after a take-back the standing offer goes by its own minute. */
+ * neither; a variation filed again unchanged is fresh again; after a take-back the standing offer goes by its own minute.
+ * Both minutes, of the acceptance and of the look-up, are the book's clock: file it every minute, before offers and
+ * look-ups. An offer filed while the clock is three minutes behind stops being fresh three minutes too soon. */
 enum {
     BILZHAAN_STANDING_IN_FORCE = 1,
     BILZHAAN_VARIATION_IN_FORCE = 2,

@@ -182,7 +182,7 @@ static inline int bilzhaan_is_variation(const struct bilzhaan_answer *answer)
     return in_force == BILZHAAN_VARIATION_IN_FORCE || in_force == BILZHAAN_FRESH_VARIATION_IN_FORCE;
 }
 
-/* Of a look-up: whether the offer in force is too fresh to be sure of the market schedule. */
+/* Of a look-up: whether the offer in force is too fresh to be sure of the schedule. */
 static inline int bilzhaan_is_fresh(const struct bilzhaan_answer *answer)
 {
     int32_t in_force = answer->words[BILZHAAN_ANSWER_IN_FORCE];

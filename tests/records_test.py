@@ -34,7 +34,7 @@ from records_refusals import REFUSALS, draws  # noqa: E402
 
 # Document 01, "Cases": "Output whole".
 PRINTED = ['0 0 0', '0 0 0', '0 3 700', '0 0 0', '0 4 300', '0 1 300', '10 0 0', '0 0 0', '0 1 700']
-FRESH = 'accepted less than 5 minutes before the look-up, so not sure to be in the market schedule'
+FRESH = 'accepted less than 5 minutes before the clock, so a market schedule made at that minute may leave it out'
 
 
 def run(words):

@@ -7,7 +7,7 @@ from records_layout import (CALLS, KIND_NAMES, LENGTH, NOTICES, REASONS, SCHEDUL
 
 CALL_TEXTS = {1: 'clock', 2: 'capability', 3: 'standing offer', 4: 'variation', 5: 'outage', 6: 'notice', 7: 'withdrawal', 8: 'look-up', 9: 'total'}
 TAKES_BACK = 'takes the variation back: the standing offer stands again, if there is one'
-FRESH = f'accepted less than {SCHEDULE_CUTOFF_MINUTES} minutes before the look-up, so not sure to be in the market schedule'
+FRESH = f'accepted less than {SCHEDULE_CUTOFF_MINUTES} minutes before the clock, so a market schedule made at that minute may leave it out'
 REASON_TEXTS = ('no reason', 'synchronising profile', 'forced outage', 'energy surplus notice', 'shortfall notice', 'system status notice', 'outage of a load')
 CAPABILITY = (
     ('max-generation', 'generation maximum', show_mw), ('max-combined', 'combined maximum', show_mw),

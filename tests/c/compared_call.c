@@ -11,7 +11,7 @@ long drawn[20], accepted[10], inside_gate[7], past_another_period;
 long taken_back[2][2], taken_back_inside[7], not_taken_back, taken_back_damaged;
 long of_links[20], accepted_of_links[10], links_inside_gate[7], links_marked;
 long shown[5], at_age[2][AGES], duplicated_later, varied_again, uncovered[2];
-long ramps_below_0, minutes_to_come, minutes_below_0, duplicated_damaged, ramps_past_9999, of_version_1;
+long ramps_below_0, minutes_to_come, minutes_below_0, ages_past_32_bits, duplicated_damaged, ramps_past_9999, of_version_1;
 
 /* ---- reports ---- */
 
@@ -74,9 +74,15 @@ static void compare_record_test(struct list *l, struct random *r)
 
 /* ---- words ---- */
 
+static int32_t word_at(const uint8_t *b, int at)
+{
+    return (int32_t)((uint32_t)b[at] << 24 | (uint32_t)b[at + 1] << 16 | (uint32_t)b[at + 2] << 8 | b[at + 3]);
+}
+
+/* Never below 0, so that its slot is a place in any case. */
 static int64_t period_of(const uint8_t *b)
 {
-    return (int64_t)b[8] * 16777216 + b[9] * 65536 + b[10] * 256 + b[11];
+    return (uint32_t)word_at(b, BILZHAAN_AT_PERIOD);
 }
 
 bool same_words(const struct list *l)
@@ -160,7 +166,7 @@ static void count_take_back(const struct list *l, const struct bilzhaan_answer *
         return;
     taken_back[is_inside][l->plain[standing] == 1]++;
     if (l->plain[standing] == 1)
-        uncovered[now - l->plain[standing + CELL_MINUTE] < 5]++;
+        uncovered[now - l->plain[standing + CELL_MINUTE] < BILZHAAN_SCHEDULE_CUTOFF_MINUTES]++;
     if (is_inside)
         taken_back_inside[b[BILZHAAN_AT_REASON]]++;
 }
@@ -184,11 +190,6 @@ static void count_call(const struct list *l, const struct bilzhaan_answer *a, in
 
 /* ---- minutes and ramps ---- */
 
-static int32_t word_at(const uint8_t *b, int at)
-{
-    return (int32_t)((uint32_t)b[at] << 24 | (uint32_t)b[at + 1] << 16 | (uint32_t)b[at + 2] << 8 | b[at + 3]);
-}
-
 /* The cell that an accepted or a duplicate offer is for, or that a look-up answers from. */
 static const int32_t *cell_of_call(const struct list *l, int h)
 {
@@ -206,6 +207,7 @@ static void count_look_up(const struct list *l, const struct bilzhaan_answer *a,
         ramps_below_0 += cell[CELL_RAMPS] < 0;
         minutes_to_come += age < 0;
         minutes_below_0 += cell[CELL_MINUTE] < 0;
+        ages_past_32_bits += age > INT32_MAX;
         return;
     }
     shown[a->words[0]]++;

@@ -73,9 +73,15 @@ static int32_t odd_ramps(struct random *r)
     return one_in(r, 3) ? odd_value(r) : values[random_bits(r) % 9];
 }
 
+/* A minute near the clock, at an end of 32 bits, or any. */
 static int32_t odd_minute(struct random *r, int64_t now)
 {
-    return one_in(r, 3) ? odd_value(r) : (int32_t)(now + between(r, -7, 7));
+    switch (random_bits(r) % 6) {
+    case 0: return odd_value(r);
+    case 1:
+    case 2: return one_in(r, 4) ? INT32_MAX : INT32_MIN; /* the least has an age past 32 bits */
+    default: return (int32_t)(now + between(r, -7, 7));
+    }
 }
 
 /* Changes one word of both books, but for the first four. */
@@ -284,9 +290,9 @@ static void print_minutes(void)
     }
     printf("\nduplicates of an earlier minute: %ld; variations filed again: %ld; taken back to a standing offer, not fresh %ld,"
            " fresh %ld", duplicated_later, varied_again, uncovered[0], uncovered[1]);
-    printf("\non damaged books: look-ups of ramps below 0 %ld, of minutes to come %ld, of minutes below 0 %ld; duplicates of such"
-           " minutes %ld; ramps past 9,999 within their maxima %ld; calls on version 1: %ld", ramps_below_0, minutes_to_come,
-           minutes_below_0, duplicated_damaged, ramps_past_9999, of_version_1);
+    printf("\non damaged books: look-ups of ramps below 0 %ld, of minutes to come %ld, of minutes below 0 %ld, of ages past 32 bits"
+           " %ld; duplicates of such minutes %ld; ramps past 9,999 within their maxima %ld; calls on version 1: %ld", ramps_below_0,
+           minutes_to_come, minutes_below_0, ages_past_32_bits, duplicated_damaged, ramps_past_9999, of_version_1);
 }
 
 static void tried_minutes(void)
@@ -302,6 +308,7 @@ static void tried_minutes(void)
     tried("ramp below 0 looked up", 0, ramps_below_0);
     tried("minute to come looked up", 0, minutes_to_come);
     tried("minute below 0 looked up", 0, minutes_below_0);
+    tried("age past 32 bits looked up", 0, ages_past_32_bits);
     tried("duplicate of a damaged minute", 18, duplicated_damaged);
     tried("ramp past 9,999 within its maximum", 14, ramps_past_9999);
     tried("book of version 1", 1, of_version_1);

@@ -92,7 +92,7 @@ static void filed_again(void)
     }
 }
 
-/* A filing that any of 9 to 18 refuses, each of which leaves the held offer's minute. */
+/* Filings refused with 10 to 14 and 16 to 18, each of which leaves the held offer's minute. */
 static void refused_filings(void)
 {
     struct book b = usual_book(1000);
@@ -219,7 +219,7 @@ static void damaged_ramps(void)
     }
 }
 
-/* In 64 bits, so that a minute far from now is neither; the test for a duplicate passes it over. */
+/* Now less the minute is taken in 64 bits; the test for a duplicate passes the minute over. */
 static void damaged_minutes(void)
 {
     static const int32_t clocks[] = {0, 4, 1000, BILZHAAN_CLOCK_LAST};

@@ -213,7 +213,7 @@ static void damaged(void)
     b.words[cell_at(&b, 0, 0, 1, 100) + 22] = 5000;
     EQUAL(number_of(&b, taken_back(4)), 0);
     LOOK_UP_GIVES(&b, 0, 0, 100, 0, BILZHAAN_STANDING_IN_FORCE, INT64_C(10) * INT32_MAX);
-    /* a stamped cell of blanks, which no call of this version leaves, is in force until it is taken back */
+    /* a stamped cell of blanks, which no call leaves, is in force until it is taken back */
     put_quantities(&b, 1, 0, 0);
     LOOK_UP_GIVES(&b, 0, 0, 100, 0, BILZHAAN_VARIATION_IN_FORCE, 0);
     EQUAL(call(&b, total_of(0, 100)).words[0], 1);

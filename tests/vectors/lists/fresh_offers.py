@@ -159,12 +159,17 @@ def refused_filings(t):
     """Filings that draw 2 to 5 and 9 to 18 freshen nothing: the held offers keep their words."""
     pairs = [(4000, 71)]
     standings = ((standing(0, 0, 100, pairs)[:111], 2), (standing(2, 0, 100, pairs), 3), (standing(0, 5, 100, pairs), 3), (standing(0, 0, 100, pairs, 1), 4),
-                 (standing(1, 0, 100, pairs), 5), (standing(0, 4, 100, [(4000, 70)]), 9), (standing(0, 0, 436, pairs), 10), (standing(0, 0, 100, [(450001, 71)]), 11),
+                 (standing(1, 0, 100, pairs), 5), (standing(0, 4, 100, pairs), 9), (standing(0, 0, 436, pairs), 10), (standing(0, 0, 100, [(450001, 71)]), 11),
                  (standing(0, 0, 100, [(1, 0)]), 12), (standing(0, 0, 100, [(2, 1), (1, 1)]), 13), (standing(0, 0, 100, pairs, ramps=(51, 0)), 14),
-                 (standing(0, 1, 100, pairs), 15), (standing(0, 0, 100, [(4000, 801)]), 16), (standing(0, 0, 100, [(4000, 70)]), 18))
+                 (standing(0, 1, 100, pairs), 15), (standing(0, 0, 100, [(4000, 801)]), 16), (standing(0, 0, 35, pairs), 17),
+                 (standing(0, 0, 100, [(4000, 70)]), 18))
     variations = ((variation(0, 0, 101, pairs, 7), 11), (variation(0, 0, 101, [(1, 0)]), 12), (variation(0, 0, 101, [(2, 1), (1, 1)]), 13),
-                  (variation(0, 0, 101, pairs, ramps=(0, 41)), 14), (variation(0, 0, 101, [(4000, 801)]), 16), (variation(0, 0, 437 + 336, pairs), 10))
+                  (variation(0, 0, 101, pairs, ramps=(0, 41)), 14), (variation(0, 0, 101, [(4000, 801)]), 16), (variation(0, 0, 437 + 336, pairs), 10),
+                  (variation(0, 0, 35, pairs), 17))
     _held_at(t, 1000, 2, 5)
+    others = ((1, 100), (4, 100), (0, 35))  # the last of them inside the gate
+    for s, slot in others:
+        t.call(standing(0, s, slot, [(4000, 70)], filler(s)))
     t.call(capability(0, with_words(GENERATION, {16: 0})))
     for now in (1003, 1006):
         t.call(clock(now))
@@ -172,6 +177,8 @@ def refused_filings(t):
         for r, number in standings + variations:
             t.call(r, number)
             _both_aged(t, now - 1000)
+            for s, slot in others:
+                t.call(look_up(0, s, slot), 0, _word(1, now - 1000), 70)
         t.words(f'refused at {now}')
 
 
@@ -266,8 +273,8 @@ def another_week(t):
         t.words()
 
 
-def a_slot_at_the_weeks_end(t):
-    """A standing offer filed just as its period begins is fresh for next week's period, which comes in at midnight."""
+def a_slot_at_the_days_end(t):
+    """A standing offer filed after its slot's period began is fresh for next week's period, which comes in at midnight."""
     t.open(1, 1)
     t.call(capability(0, GENERATION))
     t.call(clock(1436))
@@ -516,5 +523,5 @@ def books_by_version(t):
         t.words(f'version {version}')
     t.write({1: 2})
     _both_aged(t, 0)
-    t.call(with_bytes(look_up(0, 0, 100), {4: 2}), 2)  # a record's version is 1 still
+    t.call(with_bytes(look_up(0, 0, 100), {4: 2}), 2)  # a record's version is 1
     t.words()
