@@ -64,9 +64,12 @@ found-from lowest highest f (x ∷ l) =
 abbrev pub found-in : Price → Price → List Pair → Findings
 found-in lowest highest l = found-from lowest highest none-yet l
 
--- "for 1 to 3 the proportion and five pairs; for 4 five pairs": refusal 4 has left the other five empty.
+-- "for 1 to 3 the proportion and five pairs; for 4 five pairs": refusal 4 has left the other five empty, among the pairs' words and an offer's.
+abbrev pub FiveUsed : ℕ → List ℤ → Type 0
+FiveUsed s ws = (s ≡ 0 → ⊥) → any-beyond (pos 0) (pos 0) ws 10 10 ≡ false
+
 abbrev pub UsesFive : ℕ → List ℤ → Type 0
-UsesFive s o = (s ≡ 0 → ⊥) → any-beyond (pos 0) (pos 0) (drop 3 o) 10 10 ≡ false
+UsesFive s o = FiveUsed s (drop 3 o)
 
 -- Words 10 to 19, the last five of ten pairs, are all 0, and 11 doesn't refuse such a pair: then they change nothing.
 unfoldable pub do-five-suffice : Price → Price → List ℤ → Bool

@@ -8,7 +8,7 @@ ghost use lib.IntN.{pos, natAbs, _+ℤ_};
 ghost use lib.ListN.{length, drop};
 ghost use Rattle.offer_rules.specs.Offer.{pairs-in, pairs, all-blank, sum-of, lowest-price, highest-price};
 ghost use Rattle.units.specs.Typed.{price-of, quantity-of};
-ghost use Rattle.offers.specs.PairTests.{blank, is-out-of-range, still-rises, with-blank, with-filled, with-pair, found-from, found-in, UsesFive, do-five-suffice};
+ghost use Rattle.offers.specs.PairTests.{blank, is-out-of-range, still-rises, with-blank, with-filled, with-pair, found-from, found-in, FiveUsed, UsesFive};
 use layout::facility;
 use layout::offer;
 use units::Price;
@@ -150,7 +150,10 @@ fn with_pair(f: Findings, price: Price, quantity: Quantity) -> Findings
 fn do_five_suffice(lowest: Price, highest: Price, service: u8) -> bool
     ensures { λ r. ⌜ r ≡ (not (eqb service 0) && not (is-out-of-range lowest highest (price-of (pos 0)) (quantity-of (pos 0)))) ⌝ }
 {
-    !(service == facility::ENERGY) & !is_out_of_range(lowest, highest, Price(0), Quantity(0))
+    if service == facility::ENERGY {
+        return false;
+    }
+    !is_out_of_range(lowest, highest, Price(0), Quantity(0))
 }
 
 // The pairs from one to before another, after findings f. The walk ends at the first that 11 refuses: no number below 11 is left to be
@@ -185,9 +188,9 @@ fn walk(
     f
 }
 
-// All ten pairs. It is short, and ends after five, where the others would change nothing.
-fn findings_in(lowest: Price, highest: Price, pairs: &[i32], short: bool) -> Findings
-    requires { ⌜ (length (now pairs) ≡ 20) × (short ≡ true → do-five-suffice lowest highest (now pairs) ≡ true) ⌝ }
+// All ten pairs, or five of them where the others would change nothing; whether they would is asked after the first five, with nothing more to keep on the way.
+fn findings_in(lowest: Price, highest: Price, service: u8, pairs: &[i32]) -> Findings
+    requires { ⌜ (length (now pairs) ≡ 20) × FiveUsed service (now pairs) ⌝ }
     ensures { λ r. ⌜ r ≡ found-in lowest highest (pairs-in (now (pairs .entry))) ⌝ }
 {
     let none = Findings {
@@ -199,6 +202,7 @@ fn findings_in(lowest: Price, highest: Price, pairs: &[i32], short: bool) -> Fin
         total: Sum(0),
     };
     let five = walk(lowest, highest, none, pairs, 0, 5);
+    let short = do_five_suffice(lowest, highest, service);
     if five.out_of_range | short {
         return five;
     }
@@ -231,6 +235,5 @@ pub fn findings_of(limits: &[i32], service: u8, offer: &[i32]) -> Findings
     let lowest = lowest_price(limits, service);
     let highest = highest_price(limits, service);
     let pairs = &offer[offer::PAIRS..];
-    let short = do_five_suffice(lowest, highest, service);
-    findings_in(lowest, highest, pairs, short)
+    findings_in(lowest, highest, service, pairs)
 }
