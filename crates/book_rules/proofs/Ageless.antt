@@ -10,9 +10,9 @@ use lib.ListN.{drop}
 use Rattle.offer_rules.specs.Numbers.{toNat}
 use Rattle.offer_rules.specs.Time.{slot-of}
 use Rattle.offer_rules.specs.Offer.{Pair, Held, sum-of}
-use Rattle.book_rules.specs.Record.{call-of, facility-of, service-of, period-word, reason-of, offer-in}
-use Rattle.book_rules.specs.Force.{View, first-of, in-force, variation-made, will-stand, pairs-of, offered, counted, count-in-force, sum-in-force, Answer, plain, shown-at, found-words, found, totalled}
-use Rattle.book_rules.specs.Refusals.{over-held, revision-number, force-number, grounds, gate-number, admitted-standing, admitted-variation, standing-number, variation-number, look-up-number, judge, look-up-reply, total-reply, reply}
+use Rattle.book_rules.specs.Record.{call-of, facility-of, service-of, period-word}
+use Rattle.book_rules.specs.Force.{View, first-of, in-force, will-stand, pairs-of, counted, count-in-force, sum-in-force, Answer, plain, shown-at, found-words, found, totalled}
+use Rattle.book_rules.specs.Refusals.{revision-number, force-number, grounds, admitted-standing, admitted-variation, standing-number, variation-number, look-up-number, judge, look-up-reply, total-reply, reply}
 use Rattle.book_rules.specs.Claims.{minute-less, ageless, MinutesShowInWord0}
 
 -- ---- what is in force
