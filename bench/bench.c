@@ -15,6 +15,7 @@
 
 enum {
     F = 64, S = 5, NOW = 100000, /* minute 100,000: period 3333 is on */
+    EARLIER = NOW - BILZHAAN_SCHEDULE_CUTOFF_MINUTES, /* what is filed then isn't fresh */
     FIRST_PERIOD = NOW / 30 + 1, OPEN_PERIOD = FIRST_PERIOD + 3, HORIZON = 48 * (NOW / 1440 + 7),
     READ_PERIOD = OPEN_PERIOD + 240, TOTAL_KEYS = 64, MOST_KEYS = 2048
 };
@@ -89,9 +90,10 @@ struct kind {
     size_t hot_count, scattered_count, length;
     int32_t facilities, services; /* for the opening */
     bool of_links; /* on the book of links */
+    int32_t first; /* of a look-up: word 0 */
 };
 
-static struct kind kinds[48];
+static struct kind kinds[52];
 static int kind_count;
 static size_t keys = MOST_KEYS; /* fewer where instructions are counted */
 static size_t in_gate, links_in_gate; /* of these, those inside gate closure */
@@ -114,12 +116,13 @@ static int below(int n)
     return (int)((random_state >> 33) % (uint64_t)n);
 }
 
-/* No two scattered offers are for one cell. Variations are taken back at keys of their own. */
+/* No two scattered offers are for one cell. Variations are taken back at keys of their own, and at others stay as EARLIER
+ * left them. */
 static struct key {
     int f, s;
     int32_t period;
-} *energy_keys, *reserve_keys, *gate_keys, *back_keys, *back_gate_keys, *link_gate_keys;
-static struct key total_keys[TOTAL_KEYS], read_keys[TOTAL_KEYS * F]; /* standing offers of every facility */
+} *energy_keys, *reserve_keys, *gate_keys, *back_keys, *earlier_keys, *back_gate_keys, *link_gate_keys;
+static struct key total_keys[TOTAL_KEYS], read_keys[TOTAL_KEYS * F]; /* standing offers of every facility, of EARLIER */
 
 static struct key *distinct_keys(size_t count, int service, int services, int first, int periods)
 {
@@ -321,8 +324,9 @@ static void make_kinds(void)
 {
     in_gate = keys < 256 ? keys : 256;
     links_in_gate = keys < 128 ? keys : 128; /* two periods of 64 links */
-    energy_keys = distinct_keys(2 * keys, 0, 1, OPEN_PERIOD, 240);
+    energy_keys = distinct_keys(3 * keys, 0, 1, OPEN_PERIOD, 240);
     back_keys = energy_keys + keys;
+    earlier_keys = back_keys + keys;
     reserve_keys = distinct_keys(keys, 1, 3, OPEN_PERIOD, 240);
     gate_keys = distinct_keys(2 * in_gate, 0, 4, FIRST_PERIOD, 2);
     back_gate_keys = gate_keys + in_gate;
@@ -352,6 +356,7 @@ static void make_kinds(void)
     add_calls("3 standing, no such slot", 10, energy_keys, keys, 1, no_slot_for);
     add_calls("3 standing, prices don't rise", 13, energy_keys, keys, 1, falling_for);
     add_calls("3 standing, above capacity", 16, energy_keys, keys, 1, above_for);
+    add_calls("3 standing, duplicate", 18, read_keys, keys, 1, standing_for);
     add_calls("4 variation, gate open, energy", 0, energy_keys, keys, 2, variation_for);
     add_calls("4 variation, gate open, reserve", 0, reserve_keys, keys, 2, variation_for);
     add_calls("4 variation, gate open, energy of a link", 0, energy_keys, keys, 2, variation_for)->of_links = true;
@@ -373,8 +378,11 @@ static void make_kinds(void)
     add_one("6 notice, empty", 7, notice_of(BILZHAAN_NOTICE_SHORTFALL, FIRST_PERIOD + 4, FIRST_PERIOD));
     add_one("7 withdrawal", 0, withdrawal_of(BILZHAAN_NOTICE_SYSTEM_STATUS));
     add_one("7 withdrawal, another kind", 7, withdrawal_of(BILZHAAN_NOTICE_SHORTFALL));
-    add_calls("8 look-up, variation", 0, energy_keys, keys, 1, look_up_for);
-    add_calls("8 look-up, standing", 0, read_keys, keys, 1, look_up_for);
+    add_calls("8 look-up, variation", 0, earlier_keys, keys, 1, look_up_for)->first = BILZHAAN_VARIATION_IN_FORCE;
+    add_calls("8 look-up, variation, fresh", 0, energy_keys, keys, 1, look_up_for)->first = BILZHAAN_FRESH_VARIATION_IN_FORCE;
+    add_calls("8 look-up, standing", 0, read_keys, keys, 1, look_up_for)->first = BILZHAAN_STANDING_IN_FORCE;
+    add_calls("8 look-up, standing, fresh", 0, back_keys, keys, 1, look_up_for)->first
+        = BILZHAAN_FRESH_STANDING_IN_FORCE; /* its variation was taken back above */
     add_calls("8 look-up, nothing in force", 19, energy_keys, keys, 1, nothing_for);
     add_calls("8 look-up, period begun", 10, energy_keys, keys, 1, begun_look_up_for);
     add_calls("9 total, 64 facilities", 0, total_keys, TOTAL_KEYS, 1, total_for);
@@ -447,11 +455,16 @@ static void set_up(const struct subject *who)
     struct key k = {0, 0, 0};
     if (who->open(who->words, BILZHAAN_BOOK_WORDS(F, S), F, S, limits) != 0)
         exit(1);
-    file(who, clock_at(NOW));
-    for (k.f = 0; k.f < F; k.f++) {
+    for (k.f = 0; k.f < F; k.f++)
         file(who, capability_for(k, 0));
+    file(who, clock_at(EARLIER));
+    for (int i = 0; i < TOTAL_KEYS * F; i++)
+        file(who, standing_for(read_keys[i], 0));
+    for (size_t i = 0; i < keys; i++)
+        file(who, variation_for(earlier_keys[i], 0));
+    file(who, clock_at(NOW));
+    for (k.f = 0; k.f < F; k.f++)
         file(who, outage_for(k, 0));
-    }
     for (size_t i = 0; i < keys; i++) {
         file(who, standing_for(energy_keys[i], 1));
         file(who, standing_for(reserve_keys[i], 1));
@@ -465,8 +478,6 @@ static void set_up(const struct subject *who)
         file(who, standing_for(back_gate_keys[i], 0));
         file(who, inside_gate_for(back_gate_keys[i], 0));
     }
-    for (int i = 0; i < TOTAL_KEYS * F; i++)
-        file(who, standing_for(read_keys[i], 0));
 }
 
 /* The book of links: capabilities, the clock, notices, and the offers that are varied or repeated. */
@@ -488,12 +499,30 @@ static void set_up_links(const struct subject *who)
         file_in(who, who->links, standing_for(link_gate_keys[i], 0));
 }
 
+static void unexpected(const struct kind *kind, const struct subject *who)
+{
+    fprintf(stderr, "%s, %s: the answers are not the expected ones\n", kind->name, who->name);
+    exit(1);
+}
+
+/* Word 0 of each look-up on each book, outside the loop that is measured: look-ups store nothing. */
+static void check_first_words(const struct kind *kind, const struct record *records, size_t count)
+{
+    size_t words = BILZHAAN_BOOK_WORDS(F, S);
+    for (const struct subject *who = subjects; who < subjects + BOOKS; who++)
+        for (size_t i = 0; i < count; i++)
+            if (who->call(who->words, words, records[i].bytes, kind->length).words[0] != kind->first)
+                unexpected(kind, who);
+}
+
 /* One kind on every subject, `rounds` times; the least time counts. Each round begins with another subject, so that
  * between two turns of any of them all the others have had theirs. */
 static void measure(const struct kind *kind, const char *where, const struct record *records, size_t count, size_t calls,
                     int rounds)
 {
     size_t at[SUBJECTS] = {0};
+    if (kind->first != 0)
+        check_first_words(kind, records, count);
     for (int round = 0; round < rounds; round++) {
         uint64_t seen[SUBJECTS];
         for (int turn = 0; turn < SUBJECTS; turn++) {
@@ -506,12 +535,9 @@ static void measure(const struct kind *kind, const char *where, const struct rec
             if (round == 0 || each < subjects[i].best)
                 subjects[i].best = each;
         }
-        for (int i = 0; i < BOOKS; i++) {
-            if (seen[i] >> 40 != 0 || seen[i] != seen[0]) {
-                fprintf(stderr, "%s, %s: the answers are not the expected ones\n", kind->name, subjects[i].name);
-                exit(1);
-            }
-        }
+        for (int i = 0; i < BOOKS; i++)
+            if (seen[i] >> 40 != 0 || seen[i] != seen[0])
+                unexpected(kind, &subjects[i]);
     }
     for (int i = 0; i < SUBJECTS; i++)
         printf("%s\t%s\t%s\t%zu\t%.3f\n", kind->name, where, subjects[i].name, calls, subjects[i].best);
@@ -545,7 +571,7 @@ int main(int argc, char **argv)
     static const char *const names[2] = {"opening, 16,224 words", "opening, 5,163,072 words"};
     for (int i = 0; i < 2; i++) {
         struct record unused = clock_at(0);
-        struct kind k = {names[i], OPENING, 0, &unused, NULL, 1, 0, 0, sizes[i][0], sizes[i][1], false};
+        struct kind k = {names[i], OPENING, 0, &unused, NULL, 1, 0, 0, sizes[i][0], sizes[i][1], false, 0};
         measure(&k, "hot", &unused, 1, instructions ? 1 : i == 0 ? 256 : 4, rounds);
     }
     return 0;

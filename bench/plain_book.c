@@ -9,9 +9,11 @@ enum {
     HEAD_MARK = 0, HEAD_VERSION = 1, HEAD_F = 2, HEAD_S = 3, HEAD_CLOCK = 4, HEAD_NOTICES = 5, HEAD_LIMITS = 11,
     HEAD_WORDS = 64,
     BLOCK_OUTAGE = 17, BLOCK_WORDS = 32,
-    CELL_WORDS = 24, CELL_PAIRS = 4,
-    MARK = 0x534F42,
-    SLOTS = 336
+    CELL_PROPORTION = 1, CELL_RAMPS = 2, CELL_MINUTE = 3, CELL_PAIRS = 4, CELL_WORDS = 24,
+    MARK = 0x534F42, BOOK_VERSION = 2,
+    SLOTS = 336,
+    RAMP_MOST = 9999, RAMP_UNIT = RAMP_MOST + 1, /* ramp up times RAMP_UNIT plus ramp down is one word */
+    SCHEDULE_CUTOFF_MINUTES = 5
 };
 
 /* A record's offer as a cell holds it, with what the tests find on the way. Once they pass, quantities are 0 or more, so
@@ -216,23 +218,31 @@ static int pairs_number(const struct book *b, const uint8_t *r, struct offer *o)
     return out ? 11 : priced_blank ? 12 : falls ? 13 : 0;
 }
 
+static inline bool is_ramp_refused(int32_t ramp, int32_t most)
+{
+    return outside(ramp, 0, most < RAMP_MOST ? most : RAMP_MOST);
+}
+
 static int offer_number(const struct book *b, const uint8_t *r, const int32_t *block, struct offer *o)
 {
     if (r[12] > 6)
         return 11;
-    o->words[1] = r[14] << 8 | r[15];
-    o->words[2] = load(r + 16);
-    o->words[3] = load(r + 20);
+    o->words[CELL_PROPORTION] = r[14] << 8 | r[15];
+    o->words[CELL_MINUTE] = b->now;
     int number = pairs_number(b, r, o);
     if (number != 0)
         return number;
     int s = r[7];
     if (s == 0) {
-        if (outside(o->words[2], 0, block[7]) || outside(o->words[3], 0, block[8]))
+        int32_t up = load(r + 16), down = load(r + 20);
+        if (is_ramp_refused(up, block[7]) || is_ramp_refused(down, block[8]))
             return 14;
+        o->words[CELL_RAMPS] = up * RAMP_UNIT + down;
         return o->total > block[1] || o->total > block[2] ? 16 : 0;
     }
-    if (s <= 3 && kinds[block[0]].has_proportion && (o->words[1] == 0 || o->words[1] > block[8 + s]))
+    o->words[CELL_RAMPS] = 0;
+    int32_t proportion = o->words[CELL_PROPORTION];
+    if (s <= 3 && kinds[block[0]].has_proportion && (proportion == 0 || proportion > block[8 + s]))
         return 15;
     return o->total > block[2 + s] ? 16 : 0;
 }
@@ -338,6 +348,13 @@ static int file_capability(const struct book *b, const uint8_t *r)
     return 0;
 }
 
+/* But for stamp and minute. */
+static inline bool is_same_offer(const int32_t *cell, const int32_t *filed)
+{
+    return cell[CELL_PROPORTION] == filed[CELL_PROPORTION] && cell[CELL_RAMPS] == filed[CELL_RAMPS]
+        && memcmp(cell + CELL_PAIRS, filed + CELL_PAIRS, (CELL_WORDS - CELL_PAIRS) * sizeof cell[0]) == 0;
+}
+
 static int file_standing(const struct book *b, const uint8_t *r)
 {
     struct offer o;
@@ -356,7 +373,7 @@ static int file_standing(const struct book *b, const uint8_t *r)
     if (cell[0] == 1) {
         if (30 * next_period(b->now, slot) - b->now < 65)
             return 17;
-        if (memcmp(cell + 1, o.words + 1, 23 * sizeof cell[0]) == 0)
+        if (is_same_offer(cell, o.words))
             return 18;
     }
     o.words[0] = 1;
@@ -447,10 +464,15 @@ static struct bilzhaan_answer look_up(const struct book *b, const uint8_t *r)
     const int32_t *cell = in_force(b, r[6], r[7], period);
     if (!cell)
         return numbered(19);
+    bool is_variation = cell[0] == period + 1; /* a period not begun is 1 or more, so its stamp isn't 1 */
+    bool is_fresh = (int64_t)b->now - cell[CELL_MINUTE] < SCHEDULE_CUTOFF_MINUTES;
     struct bilzhaan_answer answer;
     answer.number = 0;
-    memcpy(answer.words, cell, sizeof answer.words);
-    answer.words[0] = cell[0] == period + 1 ? 2 : 1; /* a period not begun is 1 or more, so its stamp isn't 1 */
+    answer.words[0] = 1 + is_variation + 2 * is_fresh;
+    answer.words[1] = cell[CELL_PROPORTION];
+    answer.words[2] = cell[CELL_RAMPS] / RAMP_UNIT;
+    answer.words[3] = cell[CELL_RAMPS] % RAMP_UNIT;
+    memcpy(answer.words + 4, cell + CELL_PAIRS, (CELL_WORDS - CELL_PAIRS) * sizeof cell[0]);
     answer.sum = quantities(cell);
     return answer;
 }
@@ -475,7 +497,7 @@ static struct bilzhaan_answer total(const struct book *b, const uint8_t *r)
 
 static bool book_usable(const int32_t *words, size_t count)
 {
-    return count >= HEAD_WORDS && words[HEAD_MARK] == MARK && words[HEAD_VERSION] == 1
+    return count >= HEAD_WORDS && words[HEAD_MARK] == MARK && words[HEAD_VERSION] == BOOK_VERSION
         && sizes_ok(words[HEAD_F], words[HEAD_S]) && count >= words_needed(words[HEAD_F], words[HEAD_S])
         && !outside(words[HEAD_CLOCK], 0, 1000000000);
 }
@@ -512,7 +534,7 @@ uint32_t plain_open(int32_t *words, size_t count, int32_t facilities, int32_t se
             return 20;
     memset(words, 0, words_needed(facilities, services) * sizeof words[0]);
     words[HEAD_MARK] = MARK;
-    words[HEAD_VERSION] = 1;
+    words[HEAD_VERSION] = BOOK_VERSION;
     words[HEAD_F] = facilities;
     words[HEAD_S] = services;
     for (int i = 0; i < 3; i++)

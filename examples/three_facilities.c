@@ -1,5 +1,5 @@
 /* A book for three facilities and five services: two generating sets and a load. It files offers, has some refused,
- * prints what each number means, reads what is in force, and takes a variation back.
+ * prints what each number means, reads what is in force, five minutes later too, and takes a variation back.
  *
  *     cc three_facilities.c $(pkg-config --cflags --libs bilzhaan) -o three_facilities */
 #include <bilzhaan_record.h>
@@ -34,8 +34,8 @@ static void print_in_force(const char *name, int32_t facility, int32_t service, 
         printf("%s\n", bilzhaan_number_text(answer.number));
         return;
     }
-    const int varied = answer.words[BILZHAAN_ANSWER_IN_FORCE] == BILZHAAN_VARIATION_IN_FORCE;
-    printf("%s, %.1f MW\n", varied ? "a variation" : "the standing offer", (double)answer.sum / 10);
+    printf("%s, %.1f MW%s\n", bilzhaan_is_variation(&answer) ? "a variation" : "the standing offer",
+           (double)answer.sum / 10, bilzhaan_is_fresh(&answer) ? ", too fresh to be sure of the schedule" : "");
     const struct bilzhaan_offer offer = bilzhaan_answered_offer(&answer);
     for (int i = 0; i < BILZHAAN_PAIRS_ENERGY; i++)
         if (offer.pairs[i].quantity != 0)
@@ -120,6 +120,9 @@ int main(void)
     print_in_force("Steam set, energy", STEAM_SET, BILZHAAN_ENERGY, 25);
     print_total("Energy", BILZHAAN_ENERGY, 24);
     print_total("Primary reserve", BILZHAAN_PRIMARY_RESERVE, 24);
+    bilzhaan_write_clock(record, 690 + BILZHAAN_SCHEDULE_CUTOFF_MINUTES);
+    file("The clock, Monday 11:35");
+    print_in_force("Steam set, energy", STEAM_SET, BILZHAAN_ENERGY, 24);
 
     /* a variation without pairs doesn't mean 0.0 MW: the standing offer stands again */
     bilzhaan_write_variation(record, &(struct bilzhaan_offer){

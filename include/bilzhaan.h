@@ -32,11 +32,14 @@
 
 /* ---- versions and sizes ---- */
 
-/* This header's version, 1.2.0: 10,000 times the first number, 100 times the second, and the third. */
-#define BILZHAAN_VERSION 10200
+/* This header's version, 1.3.0: 10,000 times the first number, 100 times the second, and the third. */
+#define BILZHAAN_VERSION 10300
 
+/* A book of another version than BILZHAAN_BOOK_VERSION, head word 1, is refused with 1. Nothing converts a stored book of
+ * version 1, whose cells hold no minute: its host opens a new book and files again, from its own records, what was accepted,
+ * in its order and with the clock records between, so that each offer has its minute. */
 enum {
-    BILZHAAN_BOOK_VERSION = 1,     /* head word 1 of the books that this version opens and reads */
+    BILZHAAN_BOOK_VERSION = 2,     /* of the books that this version opens and reads */
     BILZHAAN_RECORD_BYTES = 112,
     BILZHAAN_ANSWER_WORDS = 24,
     BILZHAAN_LIMITS = 6,
@@ -48,6 +51,7 @@ enum {
     BILZHAAN_WEEK_SLOTS = 336,     /* the slot of period P is P mod 336 */
     BILZHAAN_PERIOD_MINUTES = 30,  /* period P starts at minute 30 * P */
     BILZHAAN_GATE_MINUTES = 65,    /* a variation with 65 minutes or more to go needs no reason */
+    BILZHAAN_SCHEDULE_CUTOFF_MINUTES = 5, /* an offer accepted less than 5 minutes ago is fresh */
     BILZHAAN_CLOCK_LAST = 1000000000,
     BILZHAAN_NOTICE_PERIOD_LAST = 40000000,
     BILZHAAN_LIMIT_LARGEST = 10000000 /* a price limit is within -10,000,000 to 10,000,000 */
@@ -181,14 +185,27 @@ struct bilzhaan_answer {
 /* The words of an answer. */
 enum {
     BILZHAAN_ANSWER_COUNT = 0,      /* of a total: the facilities with an offer in force */
-    BILZHAAN_ANSWER_IN_FORCE = 0,   /* of a look-up, this and the rest: standing or variation, as below */
+    BILZHAAN_ANSWER_IN_FORCE = 0,   /* of a look-up, this and the rest: which offer, and whether it is fresh, as below */
     BILZHAAN_ANSWER_PROPORTION = 1,
     BILZHAAN_ANSWER_RAMP_UP = 2,
     BILZHAAN_ANSWER_RAMP_DOWN = 3,
     BILZHAAN_ANSWER_PAIRS = 4       /* ten pairs: pair i is word 4 + 2i, the price, and 5 + 2i, the quantity */
 };
 
-enum { BILZHAAN_STANDING_IN_FORCE = 1, BILZHAAN_VARIATION_IN_FORCE = 2 };
+/* Two questions in one word: a variation is in force at 2 and at 4, the standing offer at 1 and at 3. A comparison with one
+ * value alone takes a fresh variation for a standing offer; bilzhaan_is_variation and bilzhaan_is_fresh
+ * (bilzhaan_record.h) ask each.
+ * A fresh offer was accepted less than BILZHAAN_SCHEDULE_CUTOFF_MINUTES before the book's clock, and so isn't guaranteed to
+ * be used in a market schedule produced at that minute. A filing that is refused makes nothing fresh, a duplicate (18)
+ * neither; a variation filed again unchanged is fresh again; after a take-back the standing offer goes by its own minute.
+ * Both minutes, of the acceptance and of the look-up, are the book's clock: file it every minute, before offers and
+ * look-ups. An offer filed while the clock is three minutes behind stops being fresh three minutes too soon. */
+enum {
+    BILZHAAN_STANDING_IN_FORCE = 1,
+    BILZHAAN_VARIATION_IN_FORCE = 2,
+    BILZHAAN_FRESH_STANDING_IN_FORCE = 3,
+    BILZHAAN_FRESH_VARIATION_IN_FORCE = 4
+};
 
 /* Another layout than the library's doesn't compile. */
 typedef char bilzhaan_layout_of_x86_64[sizeof(size_t) == 8 && sizeof(struct bilzhaan_answer) == 112

@@ -175,6 +175,20 @@ static inline void bilzhaan_write_total(uint8_t record[BILZHAAN_RECORD_BYTES], i
 
 /* ---- answers ---- */
 
+/* Of a look-up: whether a variation is in force, not the standing offer. */
+static inline int bilzhaan_is_variation(const struct bilzhaan_answer *answer)
+{
+    int32_t in_force = answer->words[BILZHAAN_ANSWER_IN_FORCE];
+    return in_force == BILZHAAN_VARIATION_IN_FORCE || in_force == BILZHAAN_FRESH_VARIATION_IN_FORCE;
+}
+
+/* Of a look-up: whether the offer in force is too fresh to be sure of the schedule. */
+static inline int bilzhaan_is_fresh(const struct bilzhaan_answer *answer)
+{
+    int32_t in_force = answer->words[BILZHAAN_ANSWER_IN_FORCE];
+    return in_force == BILZHAAN_FRESH_STANDING_IN_FORCE || in_force == BILZHAAN_FRESH_VARIATION_IN_FORCE;
+}
+
 /* The offer that a look-up answered, to read or to file changed: facility, service, period and reason are left 0. */
 static inline struct bilzhaan_offer bilzhaan_answered_offer(const struct bilzhaan_answer *answer)
 {
@@ -231,7 +245,7 @@ static inline const char *bilzhaan_number_text(uint32_t number)
     case BILZHAAN_PRICES_DONT_RISE:
         return "Prices of the non-blank pairs do not strictly rise.";
     case BILZHAAN_RAMP_REFUSED:
-        return "An energy offer's ramp-up or ramp-down rate is below 0 or above its maximum.";
+        return "An energy offer's ramp-up or ramp-down rate is below 0, above its maximum or above 999.9 MW/min.";
     case BILZHAAN_PROPORTION_REFUSED:
         return "Generation, reserve: the proportion is 0 or above the class's maximum. A load's isn't tested.";
     case BILZHAAN_ABOVE_CAPACITY:

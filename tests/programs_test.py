@@ -28,14 +28,14 @@ class Vectors(unittest.TestCase):
         self.assertEqual(run(OFFER_BOOK, read(ROOT, "samples", "worked-run.records")), read(ROOT, "samples", "worked-run.txt"))
 
     def test_programs_lists(self):
-        names = sorted(n[:-3] for n in os.listdir(VECTORS) if n.startswith(("program_", "k1_program", "k2_program")) and n.endswith(".in"))
-        self.assertEqual(len(names), 8)
+        names = sorted(n[:-3] for n in os.listdir(VECTORS) if "program" in n and n.endswith(".in"))
+        self.assertEqual(len(names), 9)
         for name in names:
             with self.subTest(name):
                 self.assertEqual(run(OFFER_BOOK, read(VECTORS, name + ".in")), read(VECTORS, name + ".out"))
 
     def test_whole_lists(self):
-        for name in ("one_service", "five_services", "every_byte", "k1_calls", "k2_calls"):
+        for name in ("one_service", "five_services", "every_byte", "k1_calls", "k2_calls", "k3_calls", "k3_every_byte"):
             with self.subTest(name):
                 self.assertEqual(run(REPLAY, read(VECTORS, name + ".in")), read(VECTORS, name + ".out"))
 

@@ -94,7 +94,7 @@ class Case:
 
     def answers(self):
         def answer():
-            number, first = self.chance.choice((0, 0, self.chance.randint(0, 20))), self.chance.choice((0, 1, 2, 3, -1))
+            number, first = self.chance.choice((0, 0, self.chance.randint(0, 20))), self.chance.choice((0, 1, 2, 3, 4, 5, -1))
             total = self.chance.choice((0, 700, -5, 10**10))
             middle = [self.chance.choice((0, 0, 500, 2**31 - 1)) for _ in range(23)] if self.one_in(3) else []
             return ' '.join(map(str, [number, first if number == 0 or self.one_in(5) else 0, *middle, total if number == 0 else 0]))
@@ -138,7 +138,7 @@ class Case:
         words = ['explain']
         source = self.chance.randrange(8)
         if source == 0:
-            words += ['--answer', *self.chance.choice(('0 0 0', '17 0 0', '0 1 700', '0 2' + ' 5' * 24, '9 9', '-1 0 0', '0 -1 0', '0 0 ' + '9' * 29)).split()]
+            words += ['--answer', *self.chance.choice(('0 0 0', '17 0 0', '0 1 700', '0 3 700', '0 4 0', '0 2' + ' 5' * 24, '9 9', '-1 0 0', '0 -1 0', '0 0 ' + '9' * 29)).split()]
             words += ['--call', self.value('--call')] if self.one_in(2) else []
             words += ['--damaged'] if self.one_in(3) else []
         elif source == 1:

@@ -33,7 +33,8 @@ from records_layout import KIND_NAMES, KINDS, any_book_refuses, build, read, rec
 from records_refusals import REFUSALS, draws  # noqa: E402
 
 # Document 01, "Cases": "Output whole".
-PRINTED = ['0 0 0', '0 0 0', '0 1 700', '0 0 0', '0 2 300', '0 1 300', '10 0 0', '0 0 0', '0 1 700']
+PRINTED = ['0 0 0', '0 0 0', '0 3 700', '0 0 0', '0 4 300', '0 1 300', '10 0 0', '0 0 0', '0 1 700']
+FRESH = 'accepted less than 5 minutes before the clock, so a market schedule made at that minute may leave it out'
 
 
 def run(words):
@@ -170,7 +171,7 @@ class WorkedRun(Tool):
         answers = re.findall(r'  answer (.*)\n    (.*)', text)
         self.assertEqual([line for line, _ in answers], PRINTED)
         self.assertEqual([words for _, words in answers], [
-            'accepted', 'accepted', 'the standing offer is in force, 70.0 MW in all', 'accepted', 'the variation is in force, 30.0 MW in all',
+            'accepted', 'accepted', f'the standing offer is in force, 70.0 MW in all; {FRESH}', 'accepted', f'the variation is in force, 30.0 MW in all; {FRESH}',
             '1 facility has an offer in force, 30.0 MW in all',
             'refused with 10, period refused; drawn by the coordinator or reader',
             'accepted', 'the standing offer is in force, 70.0 MW in all'])
@@ -999,11 +1000,18 @@ class Answers(Tool):
                 ('0 0 0', 'accepted; or, answering a total: no facility has an offer in force'),
                 ('0 1 700', 'answering a look-up: the standing offer is in force, 70.0 MW in all\nanswering a total: 1 facility has an offer in force, 70.0 MW in all'),
                 ('0 2 300', 'answering a look-up: the variation is in force, 30.0 MW in all\nanswering a total: 2 facilities have an offer in force, 30.0 MW in all'),
-                ('0 3 999999', 'answering a total: 3 facilities have an offer in force, 99999.9 MW in all'),
+                ('0 3 700', f'answering a look-up: the standing offer is in force, 70.0 MW in all; {FRESH}'
+                            '\nanswering a total: 3 facilities have an offer in force, 70.0 MW in all'),
+                ('0 5 999999', 'answering a total: 5 facilities have an offer in force, 99999.9 MW in all'),
                 ('0 1 700 --call look-up', 'the standing offer is in force, 70.0 MW in all'),
                 ('0 2 1 --call 8', 'the variation is in force, 0.1 MW in all'),
+                ('0 3 1 --call 8', f'the standing offer is in force, 0.1 MW in all; {FRESH}'),
+                ('0 4 1 --call 8', f'the variation is in force, 0.1 MW in all; {FRESH}'),
+                ('0 4 1 --call 9', '4 facilities have an offer in force, 0.1 MW in all'),
                 ('0 1 0 --call 8', 'the standing offer is in force, 0.0 MW in all'),
-                ('0 2 0 --call 8', 'the variation is in force, 0.0 MW in all; no filing leaves such a variation: the book is damaged, or from before version 1.1.0'),
+                ('0 2 0 --call 8', 'the variation is in force, 0.0 MW in all; no filing leaves such a variation: the book is damaged'),
+                ('0 3 0 --call 8', f'the standing offer is in force, 0.0 MW in all; {FRESH}'),
+                ('0 4 0 --call 8', f'the variation is in force, 0.0 MW in all; {FRESH}; no filing leaves such a variation: the book is damaged'),
                 ('0 2 0 --call 9', '2 facilities have an offer in force, 0.0 MW in all'),
                 ('0 1 300 --call total', '1 facility has an offer in force, 30.0 MW in all'),
                 ('0 0 0 --call total', '0 facilities have an offer in force, 0.0 MW in all'),
@@ -1019,7 +1027,7 @@ class Answers(Tool):
                                                          '  pair 1        5.0 MW at $1.00/MWh', '  pairs 2 to 5  blank'])
 
     def test_damaged(self):
-        for line in ('17 1 0', '17 0 5', '0 1 700 --call clock', '0 3 700 --call look-up', '0 65 0 --call total', '0 -1 0',
+        for line in ('17 1 0', '17 0 5', '0 1 700 --call clock', '0 5 700 --call look-up', '0 0 700 --call look-up', '0 65 0 --call total', '0 -1 0',
                      self.LOOK_UP[:-3] + '701', '0 1 1' + ' 0' * 22 + ' 5 --call total'):
             self.assertIn('damaged answer', self.explained(f'--answer {line}'), line)
 
@@ -1135,19 +1143,31 @@ class Brief(Tool):
                 '  4      99   2 Wed  01:30  refused 19         nothing in force',
                 '  5    1000  20 Sun  20:00  refused 10         period refused: begun or past the horizon'])
 
+    def test_fresh_offers(self):
+        """What fresh means stands once, below."""
+        line = ' then '.join(f'look-up --facility 2 --service energy --period {period}' for period in (96, 97, 98))
+        self.assertEqual(self.table(line, ['0 3 0 15 15 4000 500' + ' 0' * 18 + ' 500', '0 2 30', '0 4' + ' 0' * 23 + ' 0']), [
+            'look-up, facility 2, energy',
+            'no.  period    day  time   in force            MW  pairs, MW @ $/MWh',
+            '  1      96  2 Wed  00:00  standing, fresh   50.0  50.0 @ 40.00',
+            '  2      97  2 Wed  00:30  variation          3.0',
+            '  3      98  2 Wed  01:00  variation, fresh   0.0',
+            f'fresh: {FRESH}'])
+
     def test_the_worked_run(self):
         """An answer of three numbers has no pairs: they are those of the filing before it."""
         self.assertEqual(self.table('sample', PRINTED), [
-            'no.  call            facility  service  period    day  time   answer        MW  pairs, MW @ $/MWh',
-            '  1  capability             0                                 accepted          generation, 130.0 MW, combined 80.0 MW, registered for energy',
-            '  2  standing offer         0  energy   slot 4    Mon  02:00  accepted    70.0  50.0 @ 40.00  20.0 @ 50.00',
-            '  3  look-up                0  energy        4  0 Mon  02:00  standing    70.0  50.0 @ 40.00  20.0 @ 50.00',
-            '  4  variation              0  energy        4  0 Mon  02:00  accepted    30.0  30.0 @ 40.00',
-            '  5  look-up                0  energy        4  0 Mon  02:00  variation   30.0  30.0 @ 40.00',
-            '  6  total                     energy        4  0 Mon  02:00  1 facility  30.0',
-            '  7  look-up                0  energy      340  7 Mon  02:00  refused 10        period refused: begun or past the horizon',
+            'no.  call            facility  service  period    day  time   answer              MW  pairs, MW @ $/MWh',
+            '  1  capability             0                                 accepted                generation, 130.0 MW, combined 80.0 MW, registered for energy',
+            '  2  standing offer         0  energy   slot 4    Mon  02:00  accepted          70.0  50.0 @ 40.00  20.0 @ 50.00',
+            '  3  look-up                0  energy        4  0 Mon  02:00  standing, fresh   70.0  50.0 @ 40.00  20.0 @ 50.00',
+            '  4  variation              0  energy        4  0 Mon  02:00  accepted          30.0  30.0 @ 40.00',
+            '  5  look-up                0  energy        4  0 Mon  02:00  variation, fresh  30.0  30.0 @ 40.00',
+            '  6  total                     energy        4  0 Mon  02:00  1 facility        30.0',
+            '  7  look-up                0  energy      340  7 Mon  02:00  refused 10              period refused: begun or past the horizon',
             '  8  clock                                      1 Tue  00:00  accepted',
-            '  9  look-up                0  energy      340  7 Mon  02:00  standing    70.0  50.0 @ 40.00  20.0 @ 50.00'])
+            '  9  look-up                0  energy      340  7 Mon  02:00  standing          70.0  50.0 @ 40.00  20.0 @ 50.00',
+            f'fresh: {FRESH}'])
 
     def test_a_variation_taken_back(self):
         """It is no offer of 0.0 MW, and a look-up after it has the standing offer's pairs."""
@@ -1219,10 +1239,11 @@ class Brief(Tool):
             for _ in range(chance.randint(0, 40)):
                 data[chance.randrange(len(data))] = chance.choice((0, 1, 2, 9, 255, chance.randint(0, 255)))
             pieces = [bytes(data[n:n + 112]) for n in range(0, len(data) - chance.randint(0, 112), 112)]
-            answers = [read_answer(f"{chance.randint(0, 20)} {chance.choice((0, 0, 1, 2, 3))} {chance.choice((0, 0, 700))}") for _ in pieces]
+            answers = [read_answer(f"{chance.randint(0, 20)} {chance.choice((0, 0, 1, 2, 3, 4, 5))} {chance.choice((0, 0, 700))}") for _ in pieces]
             for given in (answers, [None] * len(pieces)):
                 lines = brief_lines(brief_rows(pieces, given, Book()), given is answers)
-                self.assertIn(len(lines) - len(pieces), (1, 2))
+                self.assertEqual(lines[-1] == f'fresh: {FRESH}', any(', fresh' in line for line in lines[:-1]))
+                self.assertIn(len(lines) - (lines[-1] == f'fresh: {FRESH}') - len(pieces), (1, 2))
                 self.assertTrue(all(line == line.rstrip() and line.isprintable() for line in lines))
 
 
@@ -1292,9 +1313,18 @@ class Vectors(Tool):
     def test_links(self):
         self.assertLessEqual({0, 5, 7, 8, 9, 14, 16, 17, 19}, self.check(self.lists('k2_calls')))
 
+    def test_fresh_offers(self):
+        items = list(self.lists('k3_calls'))
+        self.assertLessEqual({0, 14, 17, 18, 19}, self.check(items))
+        looked_up = {answer.split()[1] for data, _, _, answer in items if data[5:6] == b'\x08' and answer.startswith('0 ')}
+        self.assertEqual(looked_up, {'1', '2', '3', '4'})
+
+    def test_every_byte_with_a_link(self):
+        self.assertLessEqual({0, 2, 3, 4, 11, 17}, self.check(self.lists('k3_every_byte')))
+
     def test_pairs_of_short_answers(self):
         """Told the first word and the sum alone, the pairs of the filings are those of the whole answer."""
-        for name, least in (('one_service', 100), ('five_services', 100), ('k1_calls', 100), ('k2_calls', 100)):
+        for name, least in (('one_service', 100), ('five_services', 100), ('k1_calls', 100), ('k2_calls', 100), ('k3_calls', 100)):
             seen = 0
             for _, items in itertools.groupby(self.numbered(name), lambda item: item[0]):
                 pieces, answers = zip(*((item[1], read_answer(item[4])) for item in items))
@@ -1310,6 +1340,7 @@ class Vectors(Tool):
         self.check(self.program('program_34'))
         self.check(self.program('k1_program'))
         self.check(self.program('k2_program'))
+        self.check(self.program('k3_program'))
 
 
 class Header(unittest.TestCase):
@@ -1330,9 +1361,9 @@ class Header(unittest.TestCase):
     def test_sizes_and_bounds(self):
         energy, primary = records_layout.offer_fields(0)[1], records_layout.offer_fields(1)[1]
         self.assertEqual(self.these('RECORD_BYTES', 'FACILITIES_MOST', 'SERVICES_ALL', 'PAIRS_ENERGY', 'PAIRS_OTHER', 'CLOCK_LAST',
-                                    'NOTICE_PERIOD_LAST', 'LIMIT_LARGEST'),
+                                    'NOTICE_PERIOD_LAST', 'LIMIT_LARGEST', 'SCHEDULE_CUTOFF_MINUTES'),
                          [records_layout.LENGTH, records_layout.MOST_FACILITIES, records_layout.MOST_SERVICES, energy, primary, records_layout.LAST_CLOCK,
-                          records_layout.LAST_NOTICE_PERIOD, records_layout.LARGEST_LIMIT])
+                          records_layout.LAST_NOTICE_PERIOD, records_layout.LARGEST_LIMIT, records_layout.SCHEDULE_CUTOFF_MINUTES])
         self.assertEqual([record_test(build(1), 1, services)[0] for services in self.these('SERVICES_ONE', 'SERVICES_ALL')], [0, 0])
         self.assertEqual(records_amounts.period('0/00:30') * self.numbers['PERIOD_MINUTES'], records_amounts.minute('0/00:30'))
         self.assertIn(f"slot {1000 % self.numbers['WEEK_SLOTS']})", records_amounts.show_period(1000))
@@ -1394,8 +1425,10 @@ class Header(unittest.TestCase):
 
     def test_in_force(self):
         for name, text in (('STANDING_IN_FORCE', 'standing offer'), ('VARIATION_IN_FORCE', 'variation')):
-            answer = read_answer(f'0 {self.numbers[name]} 7')
-            self.assertEqual(explain_answer(answer, 8), [f'the {text} is in force, 0.7 MW in all'])
+            for fresh, more in (('', ''), ('FRESH_', f'; {FRESH}')):
+                answer = read_answer(f'0 {self.numbers[fresh + name]} 7')
+                self.assertEqual(explain_answer(answer, 8), [f'the {text} is in force, 0.7 MW in all{more}'])
+        self.assertEqual(self.these(*self.after('STANDING_IN_FORCE', 4)), list(records_layout.IN_FORCE))
 
 
 class RefusalsPage(unittest.TestCase):

@@ -2,12 +2,11 @@
 from collections import namedtuple
 
 from records_amounts import LEAST_WORD, MOST_WORD, BadArgument, show_mw, whole, within
-from records_explain import CALL_TEXTS, aligned, offer_rows
-from records_layout import CALLS, MOST_FACILITIES, MOST_SERVICES, are_sizes, form_faults, record_test
+from records_explain import CALL_TEXTS, FRESH, aligned, offer_rows
+from records_layout import CALLS, IN_FORCE, MOST_FACILITIES, MOST_SERVICES, are_sizes, form_faults, record_test
 from records_refusals import REFUSALS, draws
 
 Answer = namedtuple('Answer', 'number words sum')
-IN_FORCE = {1: 'standing offer', 2: 'variation'}
 
 
 def read_answer(text):
@@ -26,7 +25,7 @@ def read_answer(text):
 
 def look_up_damage(answer):
     if answer.words[0] not in IN_FORCE:
-        return f'word 0 of a look-up is 1 or 2, not {answer.words[0]}'
+        return f'word 0 of a look-up is 1 to 4, not {answer.words[0]}'
     if len(answer.words) == 24 and sum(answer.words[5::2]) != answer.sum:
         return f'the quantities add up to {show_mw(sum(answer.words[5::2]))}'
     return ''
@@ -106,9 +105,10 @@ def refusal_lines(answer):
 
 
 def look_up_lines(answer, service):
-    lines = [f'the {IN_FORCE[answer.words[0]]} is in force, {show_mw(answer.sum)} in all']
-    if answer.words[0] == 2 and answer.sum == 0:
-        lines[0] += '; no filing leaves such a variation: the book is damaged, or from before version 1.1.0'
+    held = IN_FORCE[answer.words[0]]
+    lines = [f'the {CALL_TEXTS[held.call]} is in force, {show_mw(answer.sum)} in all' + (f'; {FRESH}' if held.is_fresh else '')]
+    if held.call == 4 and answer.sum == 0:
+        lines[0] += '; no filing leaves such a variation: the book is damaged'
     if len(answer.words) == 24:
         lines += aligned(offer_rows(service, *answer.words[1:4], answer.words[4:])[:-1])
     return lines

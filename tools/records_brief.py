@@ -3,14 +3,15 @@ What every line would repeat stands once above them; a refusal's words stand whe
 from collections import namedtuple
 
 from records_amounts import WEEKDAYS, show_mw, show_parts, show_time
-from records_explain import CALL_TEXTS, REASON_TEXTS, TAKES_BACK, outage_window, used_offer
-from records_layout import CALLS, KIND_NAMES, LENGTH, NOTICES, SERVICES, SERVICE_TEXTS, pairs_of, read, record_test, takes_back
+from records_explain import CALL_TEXTS, FRESH, REASON_TEXTS, TAKES_BACK, outage_window, used_offer
+from records_layout import CALLS, IN_FORCE, KIND_NAMES, LENGTH, NOTICES, SERVICES, SERVICE_TEXTS, pairs_of, read, record_test, takes_back
 from records_refusals import REFUSALS, refusal_text
 
 # Texts of a line's cells, '' where there is nothing to say; `pairs` are (price, quantity), `text` what stands in their place.
 Row = namedtuple('Row', 'place call facility service period day time answer mw pairs text')
 SHARED = ('call', 'facility', 'service')
 RIGHT = ('place', 'facility', 'period', 'day', 'mw')
+LOOKED_UP = {first: CALLS[held.call] + (', fresh' if held.is_fresh else '') for first, held in IN_FORCE.items()}
 
 
 # ---- a record's cells
@@ -76,7 +77,7 @@ def answered(row, answer, call, wrong):
         return row._replace(answer='damaged', mw='', pairs=[], text=f'answer {answer.number} {answer.words[0]} {answer.sum}: {wrong}')
     if call == 8:
         pairs = pairs_of(answer.words[4:]) if len(answer.words) == 24 else []
-        return row._replace(answer={1: 'standing', 2: 'variation'}[answer.words[0]], mw=show_parts(answer.sum, 1), pairs=pairs)
+        return row._replace(answer=LOOKED_UP[answer.words[0]], mw=show_parts(answer.sum, 1), pairs=pairs)
     if call == 9:
         many = answer.words[0]
         return row._replace(answer='1 facility' if many == 1 else f'{many} facilities', mw=show_parts(answer.sum, 1))
@@ -112,8 +113,8 @@ class Filings:
 
     def pairs(self, r, answer):
         """Those of the offer that a look-up says is in force; none if it was filed elsewhere."""
-        key = (3, r.facility, r.service, r.period % 336) if answer.words[0] == 1 else (4, r.facility, r.service, r.period)
-        words = self.held.get(key, [])
+        call = IN_FORCE[answer.words[0]].call
+        words = self.held.get((call, r.facility, r.service, r.period % 336 if call == 3 else r.period), [])
         return pairs_of(words) if sum(words[1::2]) == answer.sum else []
 
 
@@ -125,7 +126,7 @@ def with_filed_pairs(rows, records, answers):
             filings.take(read(data))
         if row.answer == 'damaged':
             filings = Filings()
-        if row.answer in ('standing', 'variation') and len(answer.words) == 1:
+        if row.answer in LOOKED_UP.values() and len(answer.words) == 1:
             row = row._replace(pairs=filings.pairs(read(data), answer))
         yield row
 
@@ -153,7 +154,7 @@ def brief_rows(records, answers, book):
 
 
 def brief_lines(rows, have_answers):
-    """A line above for what all rows share, heads, and a line for each row."""
+    """A line above for what all rows share, heads, a line for each row, and one below on what fresh means."""
     if not rows:
         return ['no records']
     shared = [name for name in SHARED if len({getattr(row, name) for row in rows}) == 1 and rows[0].call != 'no record']
@@ -167,4 +168,5 @@ def brief_lines(rows, have_answers):
     widths = [max(len(line[n]) for line in table) for n in range(len(columns))]
     lines = ['  '.join([cell.rjust(width) if name in RIGHT else cell.ljust(width) for cell, name, width in zip(line, columns, widths)] + line[-1:]).rstrip()
              for line in table]
-    return ([shared_text(rows[0], shared)] if shared_text(rows[0], shared) else []) + lines
+    below = [f'fresh: {FRESH}'] if any(row.answer.endswith(', fresh') for row in rows) else []
+    return ([shared_text(rows[0], shared)] if shared_text(rows[0], shared) else []) + lines + below

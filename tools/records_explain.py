@@ -2,11 +2,12 @@
 from itertools import groupby
 
 from records_amounts import show_minute, show_mw, show_period, show_price, show_proportion, show_ramp, show_slot
-from records_layout import (CALLS, KIND_NAMES, LENGTH, NOTICES, REASONS, SERVICES, SERVICE_TEXTS, alternatives, any_book_refuses, field_at, form_faults,
-                            kinds_with, offer_fields, pairs_of, read, record_test, stray_bytes, takes_back)
+from records_layout import (CALLS, KIND_NAMES, LENGTH, NOTICES, REASONS, SCHEDULE_CUTOFF_MINUTES, SERVICES, SERVICE_TEXTS, alternatives,
+                            any_book_refuses, field_at, form_faults, kinds_with, offer_fields, pairs_of, read, record_test, stray_bytes, takes_back)
 
 CALL_TEXTS = {1: 'clock', 2: 'capability', 3: 'standing offer', 4: 'variation', 5: 'outage', 6: 'notice', 7: 'withdrawal', 8: 'look-up', 9: 'total'}
 TAKES_BACK = 'takes the variation back: the standing offer stands again, if there is one'
+FRESH = f'accepted less than {SCHEDULE_CUTOFF_MINUTES} minutes before the clock, so a market schedule made at that minute may leave it out'
 REASON_TEXTS = ('no reason', 'synchronising profile', 'forced outage', 'energy surplus notice', 'shortfall notice', 'system status notice', 'outage of a load')
 CAPABILITY = (
     ('max-generation', 'generation maximum', show_mw), ('max-combined', 'combined maximum', show_mw),

@@ -102,6 +102,15 @@ def field_at(place):
     return f'W{(place - 32) // 4}'
 
 
+# ---- word 0 of a look-up
+
+SCHEDULE_CUTOFF_MINUTES = 5
+
+# The call that filed the offer in force, and whether it was accepted less than the cutoff before the clock.
+InForce = namedtuple('InForce', 'call is_fresh')
+IN_FORCE = {1: InForce(3, False), 2: InForce(4, False), 3: InForce(3, True), 4: InForce(4, True)}
+
+
 # ---- the record test
 
 def form_faults(data):

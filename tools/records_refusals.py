@@ -12,7 +12,7 @@ TELL = 'Nothing in the filing. Tell whoever runs the gateway.'
 REFUSALS = {
     1: Refusal('book unusable', 'too few words, or mark, version, F, S or clock wrong', HOST,
                'The words lent are no usable book: fewer than 64, mark or version wrong, F not 1 to 64, S not 1 or 5, fewer words than F and S need,'
-               ' or a clock outside 0 to 1,000,000,000.', TELL),
+               ' or a clock outside 0 to 1,000,000,000.', TELL + ' After an update: a book of version 1, whose offers are filed again.'),
     2: Refusal('not a record', 'not 112 bytes, or mark, version or call wrong', HOST,
                'Not a record: not 112 bytes, or mark, version or call (1 to 9) wrong.', 'The sending program or the line.'),
     3: Refusal('not in book', 'facility F or above, or service S or above, where used', SENDER,
@@ -43,7 +43,8 @@ REFUSALS = {
     12: Refusal('priced blank', 'quantity 0 with a price', COORDINATOR, 'A pair of 0.0 MW has a price.', 'Price 0.00, or give a quantity.'),
     13: Refusal("prices don't rise", '', COORDINATOR, 'Prices of the non-blank pairs do not strictly rise.',
                 'Order them by price; join pairs of the same price.'),
-    14: Refusal('ramp refused', '', COORDINATOR, "An energy offer's ramp-up or ramp-down rate is below 0 or above its maximum.", 'The rate.'),
+    14: Refusal('ramp refused', '', COORDINATOR, "An energy offer's ramp-up or ramp-down rate is below 0, above its maximum or above 999.9 MW/min.",
+                'The rate.'),
     15: Refusal('proportion refused', '', COORDINATOR,
                 "Generation, reserve: the proportion is 0 or above the class's maximum. A load's isn't tested.",
                 'The proportion, 0.001 up to the maximum.'),
@@ -55,7 +56,7 @@ REFUSALS = {
                 ' or a standing offer over a held one.',
                 'A variation: a reason that holds, and prices kept. A standing offer: wait until its next period has begun.'),
     18: Refusal('duplicate', 'the standing offer is the one that is held', COORDINATOR,
-                'The standing offer equals the one held: proportion, ramps and every pair.', 'Nothing; it is held.'),
+                'The standing offer equals the one held: proportion, ramps and every pair.', 'Nothing; it is held, and no fresher for it.'),
     19: Refusal('nothing in force', '', 'the reader', 'Look-up: no variation and no standing offer is in force.',
                 'Nothing; none was accepted, or the variation was taken back.'),
     20: Refusal('opening refused', 'F, S, words too few, or limits', HOST,

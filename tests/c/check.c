@@ -122,6 +122,16 @@ struct book usual_book(int32_t now)
     return b;
 }
 
+struct record offered(int which, int service, int32_t period, int reason, int32_t quantity)
+{
+    struct record r = offer_for(which, 0, service, period, reason);
+    if (quantity != 0)
+        set_pair(&r, 0, 4000, quantity);
+    if (service >= 1 && service <= 3)
+        set_proportion(&r, 1);
+    return r;
+}
+
 size_t cell_at(const struct book *b, int f, int s, int h, int slot)
 {
     size_t number = (size_t)(((f * b->services + s) * 2 + h) * BILZHAAN_WEEK_SLOTS + slot);
@@ -185,4 +195,14 @@ struct bilzhaan_answer call(struct book *b, struct record r)
 uint32_t number_of(struct book *b, struct record r)
 {
     return call(b, r).number;
+}
+
+struct bilzhaan_answer looked_up_at(struct book *b, int f, int s, int32_t period, uint32_t number, int32_t first,
+                                    int64_t sum, const char *file, int line)
+{
+    struct bilzhaan_answer a = call(b, look_up_of(f, s, period));
+    equal_at(a.number, number, "a look-up's number", file, line);
+    equal_at(a.words[0], first, "a look-up's word 0", file, line);
+    equal_at(a.sum, sum, "a look-up's sum", file, line);
+    return a;
 }

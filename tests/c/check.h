@@ -44,11 +44,20 @@ struct book book_for(int32_t facilities, int32_t services);
 struct book usual_book(int32_t now);
 void open_usual(struct book *b, int32_t now);
 
+/* Facility 0's offer of one pair at 40.00, or of blanks where the quantity is 0, with the least proportion that passes. */
+struct record offered(int which, int service, int32_t period, int reason, int32_t quantity);
+
 /* Calls, and checks what holds of every call: zeros beside a refusal and beside calls 1 to 7, no word but one cell's changed
  * by an accepted offer, every word as it was after a refusal, a look-up and a total, and these again from read-only words. */
 struct bilzhaan_answer call_bytes(struct book *b, const uint8_t *bytes, size_t length);
 struct bilzhaan_answer call(struct book *b, struct record r);
 uint32_t number_of(struct book *b, struct record r);
+
+/* A look-up that is to give this number, word 0 and sum. */
+struct bilzhaan_answer looked_up_at(struct book *b, int f, int s, int32_t period, uint32_t number, int32_t first,
+                                    int64_t sum, const char *file, int line);
+#define LOOK_UP_GIVES(b, f, s, period, number, first, sum) \
+    looked_up_at((b), (f), (s), (period), (number), (first), (sum), __FILE__, __LINE__)
 
 /* Where the cell of (f, s, standing 0 or variation 1, slot) starts in a book's words. */
 size_t cell_at(const struct book *b, int f, int s, int h, int slot);

@@ -10,6 +10,8 @@ long passed, failed;
 long drawn[20], accepted[10], inside_gate[7], past_another_period;
 long taken_back[2][2], taken_back_inside[7], not_taken_back, taken_back_damaged;
 long of_links[20], accepted_of_links[10], links_inside_gate[7], links_marked;
+long shown[5], at_age[2][AGES], duplicated_later, varied_again, uncovered[2];
+long ramps_below_0, minutes_to_come, minutes_below_0, ages_past_32_bits, duplicated_damaged, ramps_past_9999, of_version_1;
 
 /* ---- reports ---- */
 
@@ -72,9 +74,15 @@ static void compare_record_test(struct list *l, struct random *r)
 
 /* ---- words ---- */
 
+static int32_t word_at(const uint8_t *b, int at)
+{
+    return (int32_t)((uint32_t)b[at] << 24 | (uint32_t)b[at + 1] << 16 | (uint32_t)b[at + 2] << 8 | b[at + 3]);
+}
+
+/* Never below 0, so that its slot is a place in any case. */
 static int64_t period_of(const uint8_t *b)
 {
-    return (int64_t)b[8] * 16777216 + b[9] * 65536 + b[10] * 256 + b[11];
+    return (uint32_t)word_at(b, BILZHAAN_AT_PERIOD);
 }
 
 bool same_words(const struct list *l)
@@ -157,6 +165,8 @@ static void count_take_back(const struct list *l, const struct bilzhaan_answer *
     if (a->number != 0)
         return;
     taken_back[is_inside][l->plain[standing] == 1]++;
+    if (l->plain[standing] == 1)
+        uncovered[now - l->plain[standing + CELL_MINUTE] < BILZHAAN_SCHEDULE_CUTOFF_MINUTES]++;
     if (is_inside)
         taken_back_inside[b[BILZHAAN_AT_REASON]]++;
 }
@@ -177,6 +187,83 @@ static void count_call(const struct list *l, const struct bilzhaan_answer *a, in
         past_another_period += l->plain[cell] != 0 && l->plain[cell] != period + 1;
     }
 }
+
+/* ---- minutes and ramps ---- */
+
+/* The cell that an accepted or a duplicate offer is for, or that a look-up answers from. */
+static const int32_t *cell_of_call(const struct list *l, int h)
+{
+    const uint8_t *b = l->bytes;
+    return l->plain + place_of_cell(l->plain[2], l->plain[3], b[BILZHAAN_AT_FACILITY], b[BILZHAAN_AT_SERVICE], h,
+                                    period_of(b) % 336);
+}
+
+static void count_look_up(const struct list *l, const struct bilzhaan_answer *a, int64_t now)
+{
+    int h = a->words[0] % 2 == 0;
+    const int32_t *cell = cell_of_call(l, h);
+    int64_t age = now - cell[CELL_MINUTE];
+    if (l->is_damaged) {
+        ramps_below_0 += cell[CELL_RAMPS] < 0;
+        minutes_to_come += age < 0;
+        minutes_below_0 += cell[CELL_MINUTE] < 0;
+        ages_past_32_bits += age > INT32_MAX;
+        return;
+    }
+    shown[a->words[0]]++;
+    if (age < AGES)
+        at_age[h][age]++;
+}
+
+static void count_duplicate(const struct list *l, int64_t now)
+{
+    int32_t minute = cell_of_call(l, 0)[CELL_MINUTE];
+    if (l->is_damaged)
+        duplicated_damaged += minute < 0 || minute > now;
+    else
+        duplicated_later += minute < now;
+}
+
+/* 14 of ramps that are within the maxima. */
+static void count_ramps(const struct list *l)
+{
+    const int32_t *block = l->plain + 64 + 32 * (size_t)l->bytes[BILZHAAN_AT_FACILITY];
+    int32_t up = word_at(l->bytes, BILZHAAN_AT_RAMP_UP), down = word_at(l->bytes, BILZHAAN_AT_RAMP_DOWN);
+    ramps_past_9999 += up >= 0 && up <= block[7] && down >= 0 && down <= block[8];
+}
+
+/* The variation's cell as it was before the call, where the record is of a variation on a sound book; else null. */
+static const int32_t *variation_before(const struct list *l)
+{
+    const uint8_t *b = l->bytes;
+    if (l->is_damaged || list_machine_record_number(b, l->length, l->facilities, l->services) != 0
+        || b[BILZHAAN_AT_CALL] != BILZHAAN_CALL_VARIATION || period_of(b) > INT32_MAX)
+        return NULL;
+    return cell_of_call(l, 1);
+}
+
+static bool differs_in_minute_alone(const int32_t before[24], const int32_t after[24])
+{
+    bool differs = before[CELL_MINUTE] != after[CELL_MINUTE];
+    for (int i = 0; i < 24; i++)
+        differs &= i == CELL_MINUTE || before[i] == after[i];
+    return differs;
+}
+
+static void count_minutes(const struct list *l, const struct bilzhaan_answer *a, int64_t now)
+{
+    int which = a->number == 1 || a->number == 2 ? 0 : l->bytes[BILZHAAN_AT_CALL];
+    if (a->number == 0 && which == BILZHAAN_CALL_LOOK_UP)
+        count_look_up(l, a, now);
+    if (a->number == BILZHAAN_DUPLICATE)
+        count_duplicate(l, now);
+    if (a->number == BILZHAAN_RAMP_REFUSED)
+        count_ramps(l);
+    of_version_1 += a->number == 1 && l->plain[0] == 0x534F42 && l->plain[1] == 1 && usable_sizes(l) && l->lent >= l->needed
+        && now >= 0 && now <= 1000000000;
+}
+
+/* ---- links ---- */
 
 /* By the words after the call, so that a link's first capability counts. */
 static void count_link(const struct list *l, const struct bilzhaan_answer *a, int64_t now)
@@ -210,6 +297,10 @@ void compared_call(struct list *l, struct random *r, const uint8_t *bytes, size_
     bool compare_words = random_bits(r) % every == 0;
     int64_t now = l->plain[4];
     bool is_take_back = takes_back(l);
+    const int32_t *varied = variation_before(l);
+    int32_t before[24] = {0};
+    if (varied)
+        memcpy(before, varied, sizeof before);
     if (compare_words && every > 1)
         check(l, same_words(l), "words differ after an earlier call of the list");
 
@@ -233,6 +324,8 @@ void compared_call(struct list *l, struct random *r, const uint8_t *bytes, size_
         return;
     count_call(l, &a, now);
     count_link(l, &a, now);
+    count_minutes(l, &a, now);
+    varied_again += varied && differs_in_minute_alone(before, varied);
     if (is_take_back)
         count_take_back(l, &a, now);
 }

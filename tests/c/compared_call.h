@@ -18,6 +18,14 @@ extern long past_another_period; /* look-ups where the variation cell held anoth
 /* Variations of blanks alone, where the period had a variation: accepted with the gate open (0) and inside it (1), each without
  * a standing offer and with one to go back to; inside it by reason; refused with 17; accepted inside it on a damaged book. */
 extern long taken_back[2][2], taken_back_inside[7], not_taken_back, taken_back_damaged;
+/* Offers and their minutes. On sound books: look-ups by word 0 (1 to 4), and by age up to 7 minutes, of a standing offer (0) and a
+ * variation (1); duplicates of an offer of an earlier minute; variations filed again at a later minute; take-backs to a standing
+ * offer that isn't fresh (0) and to one that is (1). On damaged books: look-ups of a ramp below 0, of a minute later than the clock,
+ * of one below 0 and of one so low that its age is past 32 bits; duplicates of such; ramps past 9,999 that the maximum lets pass;
+ * calls on a book of version 1. */
+enum { AGES = 8 };
+extern long shown[5], at_age[2][AGES], duplicated_later, varied_again, uncovered[2];
+extern long ramps_below_0, minutes_to_come, minutes_below_0, ages_past_32_bits, duplicated_damaged, ramps_past_9999, of_version_1;
 /* Calls for a link: by number; accepted by byte 5; variations accepted inside gate closure, by reason. On damaged books: offers
  * refused with 9 though the mark is 1. */
 extern long of_links[20], accepted_of_links[10], links_inside_gate[7], links_marked;

@@ -66,6 +66,24 @@ static int32_t odd_value(struct random *r)
     return one_in(r, 3) ? (int32_t)(uint32_t)random_bits(r) : values[random_bits(r) % 15];
 }
 
+/* A cell's word 2 that no ramps make, or that the largest do. */
+static int32_t odd_ramps(struct random *r)
+{
+    static const int32_t values[] = {-12345, -1, -9999, -10000, -10001, 9999, 10000, 99999999, 100000000};
+    return one_in(r, 3) ? odd_value(r) : values[random_bits(r) % 9];
+}
+
+/* A minute near the clock, at an end of 32 bits, or any. */
+static int32_t odd_minute(struct random *r, int64_t now)
+{
+    switch (random_bits(r) % 6) {
+    case 0: return odd_value(r);
+    case 1:
+    case 2: return one_in(r, 4) ? INT32_MAX : INT32_MIN; /* the least has an age past 32 bits */
+    default: return (int32_t)(now + between(r, -7, 7));
+    }
+}
+
 /* Changes one word of both books, but for the first four. */
 static void damage_word(struct list *l, struct random *r, const struct scene *scene)
 {
@@ -73,21 +91,28 @@ static void damage_word(struct list *l, struct random *r, const struct scene *sc
     int f = scene->keys[i].facility % l->facilities, s = scene->keys[i].service % l->services;
     int64_t period = scene->keys[i].period < 0 ? 0 : scene->keys[i].period;
     size_t cell = place_of_cell(l->facilities, l->services, f, s, (int)between(r, 0, 1), period % 336);
-    switch (random_bits(r) % 12) {
+    switch (random_bits(r) % 15) {
     case 0: set_both(l, (size_t)between(r, 5, 16), odd_value(r)); break;
     case 1: set_both(l, 64 + 32 * (size_t)f + (size_t)between(r, 0, 18), odd_value(r)); break;
     case 2: set_both(l, (size_t)between(r, 5, (int64_t)l->needed - 1), odd_value(r)); break;
     case 3: set_both(l, cell, one_in(r, 2) ? odd_value(r) : (int32_t)(period + 1 + 336 * between(r, -1, 1))); break;
     case 4: set_both(l, 4, (int32_t)between(r, 0, one_in(r, 4) ? 1000000000 : 30 * period % 1000000000)); break;
+    case 5: set_both(l, cell + CELL_RAMPS, odd_ramps(r)); break;
+    case 6: set_both(l, cell + CELL_MINUTE, odd_minute(r, l->plain[4])); break;
+    case 7: set_both(l, 64 + 32 * (size_t)f + (size_t)between(r, 7, 8), (int32_t)between(r, 9998, 10002)); break;
     default: set_both(l, cell + (size_t)between(r, 1, 23), odd_value(r)); break;
     }
 }
 
-/* An offer with quantities that only a damaged book holds. */
+/* An offer with quantities, and ramps and minutes for some, that only a damaged book holds. */
 static void damaged_offer(struct list *l, struct random *r, size_t cell, int32_t stamp)
 {
     bool is_huge = one_in(r, 4);
     set_both(l, cell, stamp);
+    if (one_in(r, 2))
+        set_both(l, cell + CELL_RAMPS, odd_ramps(r));
+    if (one_in(r, 2))
+        set_both(l, cell + CELL_MINUTE, odd_minute(r, l->plain[4]));
     for (int i = 0; i < 10; i++) {
         int32_t quantity = one_in(r, 3) ? (int32_t)between(r, -60, 60) : one_in(r, 4) ? odd_value(r) : 0;
         set_both(l, cell + 4 + 2 * (size_t)i, 100 * i + (int32_t)between(r, -60, 60));
@@ -121,6 +146,8 @@ static void damaged_near_gate(struct list *l, struct random *r, struct scene *sc
     size_t variation = place_of_cell(scene->facilities, scene->services, f, s, 1, period % 336);
     set_both(l, block, one_in(r, 6) ? odd_value(r) : (int32_t)between(r, 1, 3));
     set_both(l, block + 12 + (size_t)s, 1);
+    if (one_in(r, 3))
+        set_both(l, block + (size_t)between(r, 7, 8), one_in(r, 2) ? odd_value(r) : (int32_t)between(r, 9998, 10002));
     if (one_in(r, 4)) { /* a link has no outage window by calls */
         set_both(l, block + 17, (int32_t)period - 1);
         set_both(l, block + 18, (int32_t)period + 1);
@@ -139,6 +166,25 @@ static void damaged_near_gate(struct list *l, struct random *r, struct scene *sc
     }
 }
 
+/* Standing offers filed again over their own cells, whose minute, and ramps for some, were damaged. */
+static void damaged_duplicates(struct list *l, struct random *r, struct scene *scene)
+{
+    for (int i = 0; i < SCENE_KEYS && usable_sizes(l) && !l->is_wrong; i++) {
+        int f = scene->keys[i].facility, s = scene->keys[i].service;
+        int64_t slot = scene->keys[i].period < 0 ? 0 : scene->keys[i].period % 336;
+        if (f >= scene->facilities || s >= scene->services)
+            continue;
+        size_t cell = place_of_cell(scene->facilities, scene->services, f, s, 0, slot);
+        if (l->plain[cell] != 1)
+            continue;
+        set_both(l, cell + CELL_MINUTE, odd_minute(r, l->plain[4]));
+        if (one_in(r, 4))
+            set_both(l, cell + CELL_RAMPS, odd_ramps(r));
+        struct record record = held_again(scene, f, s, slot);
+        compared_call(l, r, record.bytes, sizeof record.bytes);
+    }
+}
+
 static void damaged_round(struct list *l, struct random *r, struct scene *scene)
 {
     int32_t head[4];
@@ -149,6 +195,8 @@ static void damaged_round(struct list *l, struct random *r, struct scene *scene)
         l->lent = one_in(r, 2) ? few[random_bits(r) % 5] : l->needed - 1;
     } else if (one_in(r, 6)) {
         set_both(l, (size_t)between(r, 0, 3), odd_value(r));
+    } else if (one_in(r, 20)) {
+        set_both(l, 1, (int32_t)between(r, 0, 3));
     }
     for (int64_t i = between(r, 1, 6); i > 0; i--)
         damage_word(l, r, scene);
@@ -158,6 +206,8 @@ static void damaged_round(struct list *l, struct random *r, struct scene *scene)
     }
     if (one_in(r, 2))
         damaged_near_gate(l, r, scene);
+    if (one_in(r, 4))
+        damaged_duplicates(l, r, scene);
     for (int64_t i = between(r, 4, 20); i > 0 && !l->is_wrong; i--) {
         uint8_t bytes[LONGEST_RECORD];
         size_t length = random_call(r, scene, bytes);
@@ -227,6 +277,43 @@ static void tried(const char *what, int which, long times)
     }
 }
 
+/* What came of the minutes and the ramps. */
+static void print_minutes(void)
+{
+    printf("\nlook-ups by word 0:");
+    for (int i = 1; i <= 4; i++)
+        printf(" %d:%ld", i, shown[i]);
+    for (int h = 0; h <= 1; h++) {
+        printf("; of a %s by age:", h ? "variation" : "standing offer");
+        for (int i = 0; i < AGES; i++)
+            printf(" %d:%ld", i, at_age[h][i]);
+    }
+    printf("\nduplicates of an earlier minute: %ld; variations filed again: %ld; taken back to a standing offer, not fresh %ld,"
+           " fresh %ld", duplicated_later, varied_again, uncovered[0], uncovered[1]);
+    printf("\non damaged books: look-ups of ramps below 0 %ld, of minutes to come %ld, of minutes below 0 %ld, of ages past 32 bits"
+           " %ld; duplicates of such minutes %ld; ramps past 9,999 within their maxima %ld; calls on version 1: %ld", ramps_below_0,
+           minutes_to_come, minutes_below_0, ages_past_32_bits, duplicated_damaged, ramps_past_9999, of_version_1);
+}
+
+static void tried_minutes(void)
+{
+    for (int i = 1; i <= 4; i++)
+        tried("word 0 of a look-up", i, shown[i]);
+    for (int i = 0; i < 2 * AGES; i++)
+        tried(i < AGES ? "standing offer looked up at age" : "variation looked up at age", i % AGES, at_age[i / AGES][i % AGES]);
+    tried("duplicate of an earlier minute", 18, duplicated_later);
+    tried("variation filed again", 0, varied_again);
+    tried("variation taken back to a standing offer that isn't fresh", 0, uncovered[0]);
+    tried("variation taken back to a fresh standing offer", 0, uncovered[1]);
+    tried("ramp below 0 looked up", 0, ramps_below_0);
+    tried("minute to come looked up", 0, minutes_to_come);
+    tried("minute below 0 looked up", 0, minutes_below_0);
+    tried("age past 32 bits looked up", 0, ages_past_32_bits);
+    tried("duplicate of a damaged minute", 18, duplicated_damaged);
+    tried("ramp past 9,999 within its maximum", 14, ramps_past_9999);
+    tried("book of version 1", 1, of_version_1);
+}
+
 static void print_counts(void)
 {
     printf("%ld lists, %ld of them damaged at the end\nnumbers drawn:", lists, damaged_lists);
@@ -245,6 +332,7 @@ static void print_counts(void)
         printf(" %d:%ld", i, taken_back_inside[i]);
     printf("; refused with 17: %ld; on damaged books inside it: %ld", not_taken_back, taken_back_damaged);
     printf("\nlook-ups past a variation of another period of the slot: %ld", past_another_period);
+    print_minutes();
     printf("\nlinks, numbers drawn:");
     for (int i = 0; i < 20; i++)
         if (of_links[i] > 0)
@@ -275,6 +363,7 @@ static void print_counts(void)
     for (int i = 3; i <= 5; i++)
         tried("reason of a link inside gate closure", i, links_inside_gate[i]);
     tried("mark that a link may not have", 9, links_marked);
+    tried_minutes();
 }
 
 static double seconds_now(void)

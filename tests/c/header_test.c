@@ -308,7 +308,7 @@ static void answers(void)
     EQUAL(number_of(r), BILZHAAN_DUPLICATE);
     struct bilzhaan_answer a = call(look_up_of(0, BILZHAAN_ENERGY, 100));
     EQUAL(a.number, BILZHAAN_ACCEPTED);
-    EQUAL(a.words[BILZHAAN_ANSWER_IN_FORCE], BILZHAAN_STANDING_IN_FORCE);
+    EQUAL(a.words[BILZHAAN_ANSWER_IN_FORCE], BILZHAAN_FRESH_STANDING_IN_FORCE);
     EQUAL(a.words[BILZHAAN_ANSWER_RAMP_UP], 21);
     EQUAL(a.words[BILZHAAN_ANSWER_RAMP_DOWN], 22);
     EQUAL(a.words[BILZHAAN_ANSWER_PAIRS], 1000);
@@ -330,7 +330,7 @@ static void answers(void)
         EQUAL(number_of(r), BILZHAAN_UNUSED_BYTE);
     }
     a = call(look_up_of(1, BILZHAAN_PRIMARY_RESERVE, 100));
-    EQUAL(a.words[BILZHAAN_ANSWER_IN_FORCE], BILZHAAN_VARIATION_IN_FORCE);
+    EQUAL(a.words[BILZHAAN_ANSWER_IN_FORCE], BILZHAAN_FRESH_VARIATION_IN_FORCE);
     EQUAL(a.words[BILZHAAN_ANSWER_PROPORTION], 301);
     EQUAL(a.words[BILZHAAN_ANSWER_PAIRS + 2 * (BILZHAAN_PAIRS_OTHER - 1)], 7);
     a = call(total_of(BILZHAAN_PRIMARY_RESERVE, 100));
@@ -346,6 +346,27 @@ static void answers(void)
     EQUAL(number_of(look_up_of(0, 0, 100)), BILZHAAN_NO_KIND);
 }
 
+/* ---- fresh: a standing offer and a variation up to the cutoff, and from it on ---- */
+
+static int32_t in_force(int service)
+{
+    return call(look_up_of(0, service, 100)).words[BILZHAAN_ANSWER_IN_FORCE];
+}
+
+static void fresh(void)
+{
+    open_usual(1000);
+    struct record standing = varied(BILZHAAN_ENERGY, 0, 5, 100);
+    EQUAL(number_of(with_byte(standing, BILZHAAN_AT_CALL, BILZHAAN_CALL_STANDING)), BILZHAAN_ACCEPTED);
+    EQUAL(number_of(varied(BILZHAAN_REGULATION, 0, 5, 100)), BILZHAAN_ACCEPTED);
+    EQUAL(number_of(clock_at(1000 + BILZHAAN_SCHEDULE_CUTOFF_MINUTES - 1)), BILZHAAN_ACCEPTED);
+    EQUAL(in_force(BILZHAAN_ENERGY), BILZHAAN_FRESH_STANDING_IN_FORCE);
+    EQUAL(in_force(BILZHAAN_REGULATION), BILZHAAN_FRESH_VARIATION_IN_FORCE);
+    EQUAL(number_of(clock_at(1000 + BILZHAAN_SCHEDULE_CUTOFF_MINUTES)), BILZHAAN_ACCEPTED);
+    EQUAL(in_force(BILZHAAN_ENERGY), BILZHAAN_STANDING_IN_FORCE);
+    EQUAL(in_force(BILZHAAN_REGULATION), BILZHAAN_VARIATION_IN_FORCE);
+}
+
 int main(void)
 {
     versions();
@@ -357,6 +378,7 @@ int main(void)
     links();
     reasons();
     answers();
+    fresh();
     printf("%ld passed, %ld failed\n", passed, failed);
     return failed != 0;
 }

@@ -32,7 +32,7 @@ int main()
         return 5;
     bilzhaan_write_look_up(record, 0, BILZHAAN_ENERGY, 100);
     const bilzhaan_answer answer = bilzhaan_call(words, count, record, sizeof record);
-    if (answer.words[BILZHAAN_ANSWER_IN_FORCE] != BILZHAAN_VARIATION_IN_FORCE || answer.sum != 500)
+    if (!bilzhaan_is_variation(&answer) || !bilzhaan_is_fresh(&answer) || answer.sum != 500)
         return 6;
     if (bilzhaan_answered_offer(&answer).pairs[9].price != 99)
         return 7;

@@ -26,8 +26,9 @@ static void unusable(struct book *b)
 static void head(void)
 {
     static const int32_t wrong[][2] = {
-        {AT_MARK, 0}, {AT_MARK, 0x534F43}, {AT_MARK, 0x424F53}, {AT_MARK, INT32_MIN}, {AT_VERSION, 0}, {AT_VERSION, 2},
-        {AT_VERSION, -1}, {AT_F, 0}, {AT_F, 3}, {AT_F, 65}, {AT_F, -2}, {AT_F, INT32_MIN}, {AT_F, INT32_MAX},
+        {AT_MARK, 0}, {AT_MARK, 0x534F43}, {AT_MARK, 0x424F53}, {AT_MARK, INT32_MIN}, {AT_VERSION, 0}, {AT_VERSION, 1},
+        {AT_VERSION, 3}, {AT_VERSION, -1}, {AT_VERSION, 2 << 16},
+        {AT_F, 0}, {AT_F, 3}, {AT_F, 65}, {AT_F, -2}, {AT_F, INT32_MIN}, {AT_F, INT32_MAX},
         {AT_S, 0}, {AT_S, 2}, {AT_S, 4}, {AT_S, 6}, {AT_S, -5}, {AT_S, INT32_MAX},
         {AT_CLOCK, -1}, {AT_CLOCK, 1000000001}, {AT_CLOCK, INT32_MIN}, {AT_CLOCK, INT32_MAX},
     };
@@ -92,7 +93,7 @@ static void stamps(void)
     for (size_t i = 0; i < sizeof others / sizeof others[0]; i++) {
         variation[0] = others[i];
         EQUAL(call(&b, look_up_of(0, 0, 100)).sum, 70);
-        EQUAL(call(&b, look_up_of(0, 0, 100)).words[0], BILZHAAN_STANDING_IN_FORCE);
+        EQUAL(call(&b, look_up_of(0, 0, 100)).words[0], BILZHAAN_FRESH_STANDING_IN_FORCE);
         EQUAL(call(&b, total_of(0, 100)).sum, 70);
     }
     for (size_t i = 0; i < sizeof others / sizeof others[0]; i++) {
@@ -187,7 +188,7 @@ static void windows_and_limits(void)
     EQUAL(number_of(&b, offer_for(BILZHAAN_CALL_VARIATION, 0, 0, 100, 0)), BILZHAAN_ABOVE_CAPACITY);
     b.words[AT_BLOCKS + 1] = b.words[AT_BLOCKS + 2] = INT32_MAX;
     r = offer_for(BILZHAAN_CALL_VARIATION, 0, 0, 100, 0);
-    set_ramps(&r, INT32_MAX, 0);
+    set_ramps(&r, 9999, 0);
     for (int pair = 0; pair < 10; pair++)
         set_pair(&r, pair, pair, 99999);
     EQUAL(number_of(&b, r), 0);

@@ -57,7 +57,7 @@ static void standing_offers(void)
     EQUAL(number_of(&b, varied(337, 1, 500, 0)), 0);
     EQUAL(number_of(&b, stood(1, 500, 100)), 0);
     EQUAL(number_of(&b, stood(1, 500, 0)), BILZHAAN_GATE_CLOSED);
-    EQUAL(call(&b, look_up_of(0, 0, 337)).words[0], BILZHAAN_VARIATION_IN_FORCE);
+    EQUAL(call(&b, look_up_of(0, 0, 337)).words[0], BILZHAAN_FRESH_VARIATION_IN_FORCE);
 }
 
 /* Each reason inside gate closure, with what it asks: generation facility 0, energy, period 4 at minute 56. */
@@ -180,7 +180,7 @@ static void in_force(void)
     EQUAL(number_of(&b, stood(4, 500, 200)), 0);
     EQUAL(number_of(&b, varied(4, 0, 300, 0)), 0);
     struct bilzhaan_answer a = call(&b, look_up_of(0, 0, 4));
-    EQUAL(a.words[0], BILZHAAN_VARIATION_IN_FORCE);
+    EQUAL(a.words[0], BILZHAAN_FRESH_VARIATION_IN_FORCE);
     EQUAL(a.words[4], 4000);
     EQUAL(a.words[5], 300);
     EQUAL(a.sum, 300);

@@ -13,16 +13,6 @@ static void open_link(struct book *b, int32_t now)
     EQUAL(number_of(b, clock_at(now)), 0);
 }
 
-static struct record offered(int which, int service, int32_t period, int reason, int32_t quantity)
-{
-    struct record r = offer_for(which, 0, service, period, reason);
-    if (quantity != 0)
-        set_pair(&r, 0, 4000, quantity);
-    if (service >= 1 && service <= 3)
-        set_proportion(&r, 1);
-    return r;
-}
-
 static struct record varied(int reason, int32_t quantity)
 {
     return offered(BILZHAAN_CALL_VARIATION, BILZHAAN_ENERGY, 100, reason, quantity);
@@ -222,7 +212,7 @@ static void damaged_services(void)
         put_offer(&b, s, 0, 1, 70);
         EQUAL(call(&b, look_up_of(0, s, 100)).sum, 70);
         put_offer(&b, s, 1, 101, -80);
-        EQUAL(call(&b, look_up_of(0, s, 100)).words[0], BILZHAAN_VARIATION_IN_FORCE);
+        EQUAL(call(&b, look_up_of(0, s, 100)).words[0], BILZHAAN_FRESH_VARIATION_IN_FORCE);
         EQUAL(call(&b, total_of(s, 100)).sum, -80);
         EQUAL(number_of(&b, offered(BILZHAAN_CALL_VARIATION, s, 100, 0, 0)), BILZHAAN_NOT_REGISTERED);
     }

@@ -7,12 +7,12 @@
 enum { CANARY = 0x5A5A5A5A, ROOM = 40 };
 
 /* "Opening writes words 0 to N − 1: mark, version, F and S as above, clock 0, all windows 1 to 0 (empty), given limits,
- * else zero." */
+ * else zero." "The book's version, head word 1, becomes 2." */
 static int32_t opened_word(size_t i, int32_t facilities, int32_t services, const int32_t limits[6])
 {
     if (i < 64) {
         static const int32_t windows[6] = {1, 0, 1, 0, 1, 0};
-        int32_t fixed[5] = {0x534F42, 1, facilities, services, 0};
+        int32_t fixed[5] = {0x534F42, 2, facilities, services, 0};
         return i < 5 ? fixed[i] : i < 11 ? windows[i - 5] : i < 17 ? limits[i - 11] : 0;
     }
     return i < 64 + 32 * (size_t)facilities && (i - 64) % 32 == 17 ? 1 : 0;

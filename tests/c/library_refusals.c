@@ -223,7 +223,7 @@ static void blanks_and_prices(void)
     EQUAL(number_of(&b, offer_for(BILZHAAN_CALL_STANDING, 0, 0, 101, 0)), 0); /* an all-blank standing offer is an offer */
     struct bilzhaan_answer a = call(&b, look_up_of(0, 0, 101));
     EQUAL(a.number, 0);
-    EQUAL(a.words[0], BILZHAAN_STANDING_IN_FORCE);
+    EQUAL(a.words[0], BILZHAAN_FRESH_STANDING_IN_FORCE);
     EQUAL(a.sum, 0);
     EQUAL(call(&b, total_of(0, 101)).words[0], 1);
 }
@@ -266,7 +266,7 @@ static void ramps_proportions_and_totals(void)
     EQUAL(number_of(&b, energy(BILZHAAN_CALL_VARIATION, 100)), 0);
 }
 
-/* 18 for standing offers alone, at each of the words 1 to 23; 19 where nothing is in force. */
+/* 18 for standing offers alone, at the proportion, each ramp and each word of the pairs; 19 where nothing is in force. */
 static void duplicates_and_nothing(void)
 {
     struct book b = usual_book(0);

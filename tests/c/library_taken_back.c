@@ -21,15 +21,6 @@ static bool is_emptied(const struct book *b, int f, int s, int slot)
     return true;
 }
 
-/* Number, word 0 and sum of a look-up. */
-static void look_up_gives(struct book *b, int f, int s, int32_t period, uint32_t number, int32_t first, int64_t sum)
-{
-    struct bilzhaan_answer a = call(b, look_up_of(f, s, period));
-    EQUAL(a.number, number);
-    EQUAL(a.words[0], first);
-    EQUAL(a.sum, sum);
-}
-
 /* ---- the gate open ---- */
 
 static void each_service(void)
@@ -47,15 +38,15 @@ static void each_service(void)
                 r.bytes[BILZHAAN_AT_CALL] = BILZHAAN_CALL_VARIATION;
                 set_pair(&r, 0, 11, 60);
                 EQUAL(number_of(&b, r), 0);
-                look_up_gives(&b, f, s, 100, 0, BILZHAAN_VARIATION_IN_FORCE, 60);
+                LOOK_UP_GIVES(&b, f, s, 100, 0, BILZHAAN_FRESH_VARIATION_IN_FORCE, 60);
                 set_pair(&r, 0, 0, 0);
                 for (int again = 0; again <= 1; again++) { /* the second time there is nothing to take back */
                     EQUAL(number_of(&b, r), 0);
                     CHECK(is_emptied(&b, f, s, 100));
                     if (held)
-                        look_up_gives(&b, f, s, 100, 0, BILZHAAN_STANDING_IN_FORCE, 50);
+                        LOOK_UP_GIVES(&b, f, s, 100, 0, BILZHAAN_FRESH_STANDING_IN_FORCE, 50);
                     else
-                        look_up_gives(&b, f, s, 100, BILZHAAN_NOTHING_IN_FORCE, 0, 0);
+                        LOOK_UP_GIVES(&b, f, s, 100, BILZHAAN_NOTHING_IN_FORCE, 0, 0);
                 }
             }
     EQUAL(call(&b, total_of(BILZHAAN_ENERGY, 100)).words[0], 1);
@@ -70,7 +61,7 @@ static void least_of_all(void)
         struct record r = taken_back(0);
         set_pair(&r, pair, 5, 1);
         EQUAL(number_of(&b, r), 0);
-        look_up_gives(&b, 0, 0, 100, 0, BILZHAAN_VARIATION_IN_FORCE, 1);
+        LOOK_UP_GIVES(&b, 0, 0, 100, 0, BILZHAAN_FRESH_VARIATION_IN_FORCE, 1);
         EQUAL(number_of(&b, taken_back(0)), 0);
         CHECK(is_emptied(&b, 0, 0, 100));
     }
@@ -88,13 +79,13 @@ static void whatever_the_cell_held(void)
     EQUAL(number_of(&b, varied(4000, 7)), 0);
     EQUAL(number_of(&b, varied(4000, 8)), 0);
     EQUAL(number_of(&b, taken_back(0)), 0);
-    look_up_gives(&b, 0, 0, 100, BILZHAAN_NOTHING_IN_FORCE, 0, 0);
+    LOOK_UP_GIVES(&b, 0, 0, 100, BILZHAAN_NOTHING_IN_FORCE, 0, 0);
     EQUAL(number_of(&b, varied(4000, 9)), 0);
-    look_up_gives(&b, 0, 0, 100, 0, BILZHAAN_VARIATION_IN_FORCE, 9);
+    LOOK_UP_GIVES(&b, 0, 0, 100, 0, BILZHAAN_FRESH_VARIATION_IN_FORCE, 9);
     /* "A blank standing offer still means zero MW." */
     EQUAL(number_of(&b, stood(0, 0)), 0);
     EQUAL(number_of(&b, taken_back(0)), 0);
-    look_up_gives(&b, 0, 0, 100, 0, BILZHAAN_STANDING_IN_FORCE, 0);
+    LOOK_UP_GIVES(&b, 0, 0, 100, 0, BILZHAAN_FRESH_STANDING_IN_FORCE, 0);
     EQUAL(call(&b, total_of(0, 100)).words[0], 1);
     EQUAL(number_of(&b, stood(0, 0)), BILZHAAN_DUPLICATE);
 }
@@ -124,7 +115,7 @@ static void refused(void)
         w[i] = i == BILZHAAN_W_REGISTERED ? 0 : usual_generation[i];
     EQUAL(number_of(&b, capability_of(0, w)), 0);
     EQUAL(number_of(&b, taken_back(0)), BILZHAAN_NOT_REGISTERED);
-    look_up_gives(&b, 0, 0, 100, 0, BILZHAAN_VARIATION_IN_FORCE, 60);
+    LOOK_UP_GIVES(&b, 0, 0, 100, 0, BILZHAAN_FRESH_VARIATION_IN_FORCE, 60);
 }
 
 /* ---- inside the gate ---- */
@@ -154,11 +145,11 @@ static void reasons(void)
             EQUAL(number_of(&b, taken_back(reason)), passes ? 0 : BILZHAAN_GATE_CLOSED);
             CHECK(is_emptied(&b, 0, 0, 100) == passes);
             if (!passes)
-                look_up_gives(&b, 0, 0, 100, 0, BILZHAAN_VARIATION_IN_FORCE, 60);
+                LOOK_UP_GIVES(&b, 0, 0, 100, 0, BILZHAAN_VARIATION_IN_FORCE, 60);
             else if (standing[i] < 0)
-                look_up_gives(&b, 0, 0, 100, BILZHAAN_NOTHING_IN_FORCE, 0, 0);
+                LOOK_UP_GIVES(&b, 0, 0, 100, BILZHAAN_NOTHING_IN_FORCE, 0, 0);
             else
-                look_up_gives(&b, 0, 0, 100, 0, BILZHAAN_STANDING_IN_FORCE, standing[i]);
+                LOOK_UP_GIVES(&b, 0, 0, 100, 0, BILZHAAN_STANDING_IN_FORCE, standing[i]);
             /* nothing is left to take back: 1 and 2 pass again, no other does */
             if (passes)
                 EQUAL(number_of(&b, taken_back(reason)), reason <= 2 ? 0 : BILZHAAN_GATE_CLOSED);
@@ -207,7 +198,7 @@ static void damaged(void)
     put_quantities(&b, 1, 60, INT32_MIN);
     EQUAL(number_of(&b, taken_back(3)), BILZHAAN_GATE_CLOSED);
     EQUAL(number_of(&b, taken_back(4)), 0);
-    look_up_gives(&b, 0, 0, 100, 0, BILZHAAN_STANDING_IN_FORCE, 61 - 450);
+    LOOK_UP_GIVES(&b, 0, 0, 100, 0, BILZHAAN_STANDING_IN_FORCE, 61 - 450);
     put_quantities(&b, 0, -1, INT32_MIN);
     put_quantities(&b, 1, 1, 0);
     EQUAL(number_of(&b, taken_back(4)), BILZHAAN_GATE_CLOSED);
@@ -221,10 +212,10 @@ static void damaged(void)
     EQUAL(number_of(&b, taken_back(4)), BILZHAAN_GATE_CLOSED);
     b.words[cell_at(&b, 0, 0, 1, 100) + 22] = 5000;
     EQUAL(number_of(&b, taken_back(4)), 0);
-    look_up_gives(&b, 0, 0, 100, 0, BILZHAAN_STANDING_IN_FORCE, INT64_C(10) * INT32_MAX);
-    /* a stamped cell of blanks, which no call of this version leaves, is in force until it is taken back */
+    LOOK_UP_GIVES(&b, 0, 0, 100, 0, BILZHAAN_STANDING_IN_FORCE, INT64_C(10) * INT32_MAX);
+    /* a stamped cell of blanks, which no call leaves, is in force until it is taken back */
     put_quantities(&b, 1, 0, 0);
-    look_up_gives(&b, 0, 0, 100, 0, BILZHAAN_VARIATION_IN_FORCE, 0);
+    LOOK_UP_GIVES(&b, 0, 0, 100, 0, BILZHAAN_VARIATION_IN_FORCE, 0);
     EQUAL(call(&b, total_of(0, 100)).words[0], 1);
     EQUAL(number_of(&b, taken_back(0)), BILZHAAN_GATE_CLOSED);
     EQUAL(number_of(&b, taken_back(5)), 0);
@@ -234,7 +225,7 @@ static void damaged(void)
     b.words[cell_at(&b, 0, 0, 0, 100)] = 101;
     EQUAL(number_of(&b, taken_back(4)), BILZHAAN_GATE_CLOSED);
     EQUAL(number_of(&b, taken_back(3)), 0);
-    look_up_gives(&b, 0, 0, 100, BILZHAAN_NOTHING_IN_FORCE, 0, 0);
+    LOOK_UP_GIVES(&b, 0, 0, 100, BILZHAAN_NOTHING_IN_FORCE, 0, 0);
 }
 
 void test_taken_back(void)

@@ -1,6 +1,6 @@
 /* Tests of the library from C by hand: records, the opening, every refusal from 1 to 20, gate closure, variations
- * taken back, import links, damaged books, what the header says of lent words, document 01's cases and its worked run.
- * Prints 'N passed, M failed'. */
+ * taken back, import links, fresh offers, damaged books, what the header says of lent words, document 01's cases and its
+ * worked run. Prints 'N passed, M failed'. */
 #include "library_test.h"
 
 #include <inttypes.h>
@@ -28,7 +28,7 @@ static struct record offer(int which, int32_t period, int reason, int32_t q1, in
 
 static void worked_run(void)
 {
-    static const char expected[] = "0 0 0\n0 0 0\n0 1 700\n0 0 0\n0 2 300\n0 1 300\n10 0 0\n0 0 0\n0 1 700\n";
+    static const char expected[] = "0 0 0\n0 0 0\n0 3 700\n0 0 0\n0 4 300\n0 1 300\n10 0 0\n0 0 0\n0 1 700\n";
     struct record input[9];
     input[0] = capability(1300, 800);
     input[1] = offer(BILZHAAN_CALL_STANDING, 4, 0, 500, 4000, 200, 5000);
@@ -107,6 +107,7 @@ int main(void)
     test_gate();
     test_taken_back();
     test_links();
+    test_fresh();
     test_damaged();
     test_lent();
     EQUAL(numbers_drawn, 0xFFFFF); /* 0 to 19; 20 is the opening's and the record test's */

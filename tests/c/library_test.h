@@ -10,6 +10,7 @@ void test_refusals(void);   /* library_refusals.c */
 void test_gate(void);       /* library_gate.c */
 void test_taken_back(void); /* library_taken_back.c */
 void test_links(void);      /* library_links.c */
+void test_fresh(void);      /* library_fresh.c */
 void test_damaged(void);    /* library_damaged.c */
 void test_lent(void);       /* library_lent.c */
 

@@ -132,13 +132,24 @@ static const struct facility_kind *kind_numbered(int64_t number)
 
 /* ---- "The list machine": what the list of accepted calls shows, newest first ---- */
 
-/* "Clock: newest call 1's minute, else 0." */
-static int64_t now(const machine *m)
+/* "Clock: newest call 1's minute, else 0.", of the oldest `count` calls */
+static int64_t clock_of_oldest(const machine *m, size_t count)
 {
-    for (size_t i = m->count; i-- > 0;)
+    for (size_t i = count; i-- > 0;)
         if (call_of(m->accepted[i]) == 1)
             return a_of(m->accepted[i]);
     return 0;
+}
+
+static int64_t now(const machine *m) { return clock_of_oldest(m, m->count); }
+
+/* "The list machine takes the minute from the clock at acceptance": of the calls older than the held one */
+static int64_t accepted_minute(const machine *m, rec held)
+{
+    size_t older = 0;
+    while (m->accepted[older] != held)
+        older++;
+    return clock_of_oldest(m, older);
 }
 
 static rec newest_for_facility(const machine *m, int call, int f)
@@ -445,12 +456,14 @@ static bool refused_13(const machine *m, rec r)
     return false;
 }
 
-/* 14 "energy ramp outside 0 to its maximum" */
+/* 14 "energy ramp outside 0 to its maximum"; "also covers a ramp above 9,999" */
 static bool refused_14(const machine *m, rec r)
 {
     int f = facility_of(r);
-    return is_offer(r) && service_of(r) == 0
-        && (outside(0, capability(m, f, 7), ramp_up_of(r)) || outside(0, capability(m, f, 8), ramp_down_of(r)));
+    if (!is_offer(r) || service_of(r) != 0)
+        return false;
+    return outside(0, capability(m, f, 7), ramp_up_of(r)) || outside(0, capability(m, f, 8), ramp_down_of(r))
+        || ramp_up_of(r) > 9999 || ramp_down_of(r) > 9999;
 }
 
 /* 15 "generation reserve: proportion 0 or above its maximum; load isn't tested" */
@@ -480,7 +493,8 @@ static bool refused_17(const machine *m, rec r)
     return call_of(r) == 4 && !variation_passes_gate(m, r);
 }
 
-/* 18 "standing offer equal to the held one in cell words 1–23": proportion, ramps and pairs */
+/* 18 "standing offer equal to the held one in cell words 1–23": proportion, ramps and pairs; "The duplicate test ignores
+ * the minute." */
 static bool refused_18(const machine *m, rec r)
 {
     if (call_of(r) != 3)
@@ -515,12 +529,17 @@ static int judge(const machine *m, rec r, size_t length)
     return number;
 }
 
-/* "Look-up: word 0 is 1 (standing) or 2 (variation), then cell words 1–23; sum: its ten quantities added." */
+/* "Look-up: word 0 is 1 (standing) or 2 (variation), then cell words 1–23; sum: its ten quantities added." "Word 0 is 3
+ * for standing and 4 for variation while now minus that minute is below 5." "Look-up words 2 and 3 are the ramps" */
 static void answer_look_up(const machine *m, rec r, struct bilzhaan_answer *answer)
 {
     int f = facility_of(r), s = service_of(r);
     rec offer = in_force(m, f, s, period_of(r));
-    answer->words[0] = variation(m, f, s, period_of(r)) ? 2 : 1;
+    bool is_variation = variation(m, f, s, period_of(r)) != NULL;
+    if (now(m) - accepted_minute(m, offer) < 5)
+        answer->words[0] = is_variation ? 4 : 3;
+    else
+        answer->words[0] = is_variation ? 2 : 1;
     answer->words[1] = (int32_t)proportion_of(offer);
     answer->words[2] = (int32_t)ramp_up_of(offer);
     answer->words[3] = (int32_t)ramp_down_of(offer);

@@ -36,7 +36,7 @@ static void opened(const struct list_machine *m, int32_t *words)
 {
     memset(words, 0, BILZHAAN_BOOK_WORDS(m->facilities, m->services) * sizeof words[0]);
     words[0] = 0x534F42;
-    words[1] = 1;
+    words[1] = 2; /* "The book's version, head word 1, becomes 2." */
     words[2] = m->facilities;
     words[3] = m->services;
     for (int i = 5; i < 11; i += 2)
@@ -56,8 +56,8 @@ static bool offers_any(const uint8_t *r)
     return false;
 }
 
-/* "cells of 24 words, numbered ((f·S + s)·2 + h)·336 + slot": "0 stamp ..., 1 proportion, 2 ramp up, 3 ramp down,
- * 4–23 pairs" */
+/* "cells of 24 words, numbered ((f·S + s)·2 + h)·336 + slot": "0 stamp ..., 1 proportion", "word 2 becomes ramp up times
+ * 10,000 plus ramp down, word 3 the minute", "4–23 pairs" */
 static void put_offer(const struct list_machine *m, int32_t *words, const uint8_t *r)
 {
     int32_t period = word_at(r, 8);
@@ -70,8 +70,8 @@ static void put_offer(const struct list_machine *m, int32_t *words, const uint8_
     }
     cell[0] = h ? period + 1 : 1;
     cell[1] = r[14] * 256 + r[15];
-    cell[2] = word_at(r, 16);
-    cell[3] = word_at(r, 20);
+    cell[2] = word_at(r, 16) * 10000 + word_at(r, 20);
+    cell[3] = words[4]; /* the clock that the older calls left */
     for (int i = 0; i < 20; i++)
         cell[4 + i] = word_at(r, 32 + 4 * i);
 }

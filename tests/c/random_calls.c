@@ -218,13 +218,20 @@ static void place_draft(struct random *r, const struct draft *d, int s, struct r
     }
 }
 
+static int32_t some_rate(struct random *r, int32_t most)
+{
+    if (most > 9999 && one_in(r, 3)) /* on a damaged book */
+        return (int32_t)between(r, 9999, 10001);
+    int64_t high = clamp(most, 0, 9999);
+    return (int32_t)(one_in(r, 4) ? high : one_in(r, 6) ? 0 : between(r, 0, high));
+}
+
 static void rates(struct random *r, const struct scene *scene, int f, int s, struct record *record)
 {
     const int32_t *block = block_of(scene, f);
     if (s == 0) {
-        int64_t up = clamp(block[7], 0, 9999), down = clamp(block[8], 0, 9999);
-        set_ramps(record, (int32_t)(one_in(r, 4) ? up : between(r, 0, up)),
-                  (int32_t)(one_in(r, 4) ? down : between(r, 0, down)));
+        int32_t up = some_rate(r, block[7]);
+        set_ramps(record, up, some_rate(r, block[8]));
     } else if (s <= 3) {
         int64_t most = block[0] == 2 ? 65535 : clamp(block[8 + s], 1, 65535);
         set_proportion(record, (int)(one_in(r, 4) ? most : between(r, 1, most)));
@@ -250,7 +257,8 @@ static void fault(struct random *r, const struct scene *scene, int f, int s, str
         if (s == 0) {
             bool up = one_in(r, 2);
             int32_t most = (int32_t)clamp(up ? block[7] : block[8], -1, INT32_MAX - 1);
-            set_word(record, up ? BILZHAAN_AT_RAMP_UP : BILZHAAN_AT_RAMP_DOWN, one_in(r, 2) ? -1 : most + 1);
+            int32_t past = one_in(r, 2) ? most + 1 : 10000; /* the second is past any maximum of a sound book */
+            set_word(record, up ? BILZHAAN_AT_RAMP_UP : BILZHAAN_AT_RAMP_DOWN, one_in(r, 3) ? -1 : past);
         } else if (s <= 3) {
             set_proportion(record, one_in(r, 2) ? 0 : (int)clamp(block[8 + s] + INT64_C(1), 0, 65535));
         }
@@ -260,11 +268,18 @@ static void fault(struct random *r, const struct scene *scene, int f, int s, str
 static void copy_cell(const int32_t *cell, int s, struct record *record)
 {
     if (s == 0)
-        set_ramps(record, cell[2], cell[3]);
+        set_ramps(record, cell[CELL_RAMPS] / 10000, cell[CELL_RAMPS] % 10000);
     else if (s <= 3)
         set_proportion(record, cell[1]);
     for (int i = 0; i < (s == 0 ? 20 : 10); i++)
         set_w(record, i, cell[4 + i]);
+}
+
+struct record held_again(const struct scene *scene, int f, int s, int64_t slot)
+{
+    struct record record = offer_for(BILZHAAN_CALL_STANDING, f, s, (int32_t)slot, 0);
+    copy_cell(cell_of(scene, f, s, 0, slot), s, &record);
+    return record;
 }
 
 /* A reason that the hints say holds, or any. */
@@ -391,6 +406,17 @@ struct record random_variation(struct random *r, struct scene *scene, int f, int
 
 /* ---- the other calls ---- */
 
+/* Four or five minutes after some held offer was accepted, or a few minutes from now. */
+static int64_t near_cutoff(struct random *r, const struct scene *scene)
+{
+    unsigned key = (unsigned)(random_bits(r) % SCENE_KEYS);
+    int f = scene->keys[key].facility, s = scene->keys[key].service;
+    bool is_there = f < scene->facilities && s < scene->services;
+    const int32_t *held = is_there ? held_for(scene, f, s, not_begun(scene, scene->keys[key].period)) : NULL;
+    int64_t now = now_of(scene), to = held ? held[CELL_MINUTE] + between(r, 4, 5) : now;
+    return to > now ? to : now + between(r, 0, 7);
+}
+
 static struct record some_clock(struct random *r, const struct scene *scene)
 {
     int64_t now = now_of(scene), key = not_begun(scene, scene->keys[random_bits(r) % SCENE_KEYS].period);
@@ -407,7 +433,12 @@ static struct record some_clock(struct random *r, const struct scene *scene)
     case 7:
     case 8: to = 30 * period - 65 + between(r, -1, 1); break;
     case 9: to = now + between(r, 0, 1440); break;
-    default: to = now + between(r, 0, 31); break;
+    case 10:
+    case 11:
+    case 12:
+    case 13:
+    case 14: to = now + between(r, 0, 31); break;
+    default: to = near_cutoff(r, scene); break;
     }
     if (to < now && !one_in(r, 8))
         to = now + between(r, 0, 20);

@@ -31,6 +31,9 @@ struct scene {
 
 void scene_of(struct scene *scene, struct random *r, const int32_t *words, int32_t facilities, int32_t services);
 
+/* Of a cell's words: ramp up times 10,000 plus ramp down, and the minute of acceptance. */
+enum { CELL_RAMPS = 2, CELL_MINUTE = 3 };
+
 /* The cell of (f, s, standing 0 or variation 1, slot), as a place in the words. */
 size_t place_of_cell(int32_t facilities, int32_t services, int f, int s, int h, int64_t slot);
 
@@ -40,6 +43,9 @@ size_t random_call(struct random *r, struct scene *scene, uint8_t bytes[LONGEST_
 /* A capability's kind, and w without the marks that a facility of its kind may not have. */
 int32_t random_kind(struct random *r, int32_t services);
 void clear_marks(int32_t w[17]);
+
+/* The standing offer that the slot's cell holds, filed again. */
+struct record held_again(const struct scene *scene, int f, int s, int64_t slot);
 
 /* A variation of this facility and service for this period, mostly near to the offer that stands, or of blanks alone. */
 struct record random_variation(struct random *r, struct scene *scene, int f, int s, int64_t period);

@@ -197,6 +197,13 @@ static void texts(void)
 
 /* ---- an offer that is filed, answered and filed again ---- */
 
+/* For period 100. */
+static struct bilzhaan_answer look_up(int32_t facility, int32_t service)
+{
+    bilzhaan_write_look_up(written, facility, service, 100);
+    return bilzhaan_call(words, sizeof words / sizeof words[0], written, BILZHAAN_RECORD_BYTES);
+}
+
 static void answered(void)
 {
     struct bilzhaan_offer o = {.facility = 0, .service = BILZHAAN_ENERGY, .period = 100, .ramp_up = 50, .ramp_down = 40};
@@ -207,8 +214,7 @@ static void answered(void)
     open_with_a_load();
     bilzhaan_write_standing(written, &o);
     EQUAL(filed(), BILZHAAN_ACCEPTED);
-    bilzhaan_write_look_up(written, 0, BILZHAAN_ENERGY, 100);
-    struct bilzhaan_answer a = bilzhaan_call(words, sizeof words / sizeof words[0], written, BILZHAAN_RECORD_BYTES);
+    struct bilzhaan_answer a = look_up(0, BILZHAAN_ENERGY);
     EQUAL(a.sum, 145);
     struct bilzhaan_offer again = bilzhaan_answered_offer(&a);
     EQUAL(again.facility | again.service | again.period | again.reason, 0);
@@ -219,8 +225,7 @@ static void answered(void)
     struct bilzhaan_offer reserve = {.facility = 1, .service = 2, .period = 100, .proportion = 65535, .pairs = {{1, 1}}};
     bilzhaan_write_variation(written, &reserve);
     EQUAL(filed(), BILZHAAN_ACCEPTED);
-    bilzhaan_write_look_up(written, 1, 2, 100);
-    a = bilzhaan_call(words, sizeof words / sizeof words[0], written, BILZHAAN_RECORD_BYTES);
+    a = look_up(1, 2);
     EQUAL(bilzhaan_answered_offer(&a).proportion, 65535);
 }
 
@@ -238,10 +243,30 @@ static void taken_back(void)
     bilzhaan_write_variation(written, &none);
     EQUAL(memcmp(written, r.bytes, BILZHAAN_RECORD_BYTES), 0);
     EQUAL(filed(), BILZHAAN_ACCEPTED);
-    bilzhaan_write_look_up(written, 0, BILZHAAN_ENERGY, 100);
-    struct bilzhaan_answer a = bilzhaan_call(words, sizeof words / sizeof words[0], written, BILZHAAN_RECORD_BYTES);
-    EQUAL(a.words[BILZHAAN_ANSWER_IN_FORCE], BILZHAAN_STANDING_IN_FORCE);
+    struct bilzhaan_answer a = look_up(0, BILZHAAN_ENERGY);
+    EQUAL(a.words[BILZHAAN_ANSWER_IN_FORCE], BILZHAAN_FRESH_STANDING_IN_FORCE);
     EQUAL(a.sum, 9);
+}
+
+/* Word 0 of a look-up by its two questions: a standing offer and then a variation, each fresh and five minutes later. */
+static void variation_and_fresh(void)
+{
+    const struct bilzhaan_offer offer = {.period = 100, .pairs = {{1, 9}}};
+    open_with_a_load();
+    struct bilzhaan_answer a = look_up(0, BILZHAAN_ENERGY); /* nothing in force */
+    EQUAL(bilzhaan_is_variation(&a) || bilzhaan_is_fresh(&a), 0);
+    for (int step = 0; step < 4; step++) {
+        if (step == 0)
+            bilzhaan_write_standing(written, &offer);
+        else if (step == 2)
+            bilzhaan_write_variation(written, &offer);
+        else
+            bilzhaan_write_clock(written, 10 * step);
+        EQUAL(filed(), BILZHAAN_ACCEPTED);
+        a = look_up(0, BILZHAAN_ENERGY);
+        EQUAL(bilzhaan_is_variation(&a), step >= 2);
+        EQUAL(bilzhaan_is_fresh(&a), step == 0 || step == 2);
+    }
 }
 
 /* A link's capability, field by name, and its energy. */
@@ -281,6 +306,7 @@ int main(int count, char **arguments)
     out_of_range();
     answered();
     taken_back();
+    variation_and_fresh();
     import_link();
     texts();
     printf("%ld passed, %ld failed\n", passed, failed);

@@ -156,18 +156,14 @@ int main(int argc, char **argv)
         fprintf(stderr, "usage: vectors_test FOLDER\n");
         return 2;
     }
-    replay_lists(argv[1], "one_service");
-    replay_lists(argv[1], "five_services");
-    replay_lists(argv[1], "every_byte");
-    replay_lists(argv[1], "k1_calls");
-    replay_lists(argv[1], "k2_calls");
-    for (int i = 31; i <= 36; i++) {
-        char name[32];
-        snprintf(name, sizeof name, "program_%d", i);
-        replay_program(argv[1], name);
-    }
-    replay_program(argv[1], "k1_program");
-    replay_program(argv[1], "k2_program");
+    static const char *const lists[] = {"one_service", "five_services", "every_byte", "k1_calls",
+                                        "k2_calls", "k3_calls", "k3_every_byte"};
+    static const char *const programs[] = {"program_31", "program_32", "program_33", "program_34", "program_35",
+                                           "program_36", "k1_program", "k2_program", "k3_program"};
+    for (size_t i = 0; i < sizeof lists / sizeof lists[0]; i++)
+        replay_lists(argv[1], lists[i]);
+    for (size_t i = 0; i < sizeof programs / sizeof programs[0]; i++)
+        replay_program(argv[1], programs[i]);
     printf("%ld passed, %ld failed\n", passed, failed);
     return failed != 0;
 }

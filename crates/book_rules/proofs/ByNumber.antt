@@ -11,13 +11,13 @@ use lib.IntN.{ℤ}
 use lib.ListN.{getD}
 use borrow.Author.Tests.{eqb-true, eqb-false, eq-eqb, ne-eqb}
 use Rattle.offer_rules.specs.Numbers.{draw, _then_}
-use Rattle.offer_rules.specs.Offer.{offer-number}
+use Rattle.offer_rules.specs.Offer.{Held, offer-number}
 use Rattle.offer_rules.specs.Gate.{standing-gate-refuses}
 use Rattle.offer_rules.proofs.Drawn.{or-false, then-eq, then-zero, draw-zero, then-assoc}
 use Rattle.book_rules.specs.Record.{is-record, outside, has-stray, record-number}
 use Rattle.book_rules.specs.Words.{is-book}
 use Rattle.book_rules.specs.Force.{View, Answer, plain}
-use Rattle.book_rules.specs.Refusals.{judge, reply, clock-number, capability-number, facility-number, registration-number, admission-number, admitted-standing, admitted-variation, revision-number, gate-number, outage-number, notice-number, withdrawal-number, period-number, force-number, standing-number, variation-number, look-up-number, equal-words, number, answer, after}
+use Rattle.book_rules.specs.Refusals.{judge, reply, clock-number, capability-number, facility-number, registration-number, admission-number, admitted-standing, admitted-variation, over-held, revision-number, gate-number, outage-number, notice-number, withdrawal-number, period-number, force-number, standing-number, variation-number, look-up-number, equal-words, number, answer, after}
 use Rattle.book_rules.specs.Book.{book-view, book-accept, book-answer, book-after}
 use Rattle.book_rules.specs.ByNumber.{of-held, conditions-from-5, conditions, applies}
 use Rattle.book_rules.specs.Claims.{RefusedChangesNothing, AcceptedExactly, LowestThatApplies}
@@ -45,9 +45,9 @@ last-drawn n = go (eqb n 0) refl
 
 -- ---- each call
 
-held-numbers : (now k : ℕ) (held : Option (List ℤ)) (o : List ℤ)
-    → revision-number now k held o ≡ (draw (of-held (λ _. standing-gate-refuses now k) held) 17 then draw (of-held (λ h. equal-words h o) held) 18)
-unfolding revision-number of-held draw
+held-numbers : (now k : ℕ) (held : Option Held) (o : List ℤ)
+    → revision-number now k held o ≡ (draw (of-held (λ _. standing-gate-refuses now k) held) 17 then draw (of-held (λ h. equal-words (h .offer) o) held) 18)
+unfolding over-held revision-number of-held draw
 held-numbers now k none o = sym (skip 17 (draw false 18))
 held-numbers now k (some h) o = refl
 

@@ -9,7 +9,7 @@ use lib.ListN.{length}
 use borrow.Author.Tests.{leb-true, leb-false, not-false}
 use Rattle.offer_rules.specs.Numbers.{toNat, between, _then_}
 use Rattle.offer_rules.proofs.Drawn.{and-left, and-right, or-left, or-right, then-zero, draw-zero}
-use Rattle.book_rules.specs.Record.{byte, call-of, facility-of, service-of, period-word, reason-of, word-A, word-B, capability-in, offer-in, used, uses, is-record, outside, record-number, words-at}
+use Rattle.book_rules.specs.Record.{byte, call-of, facility-of, service-of, period-word, reason-of, word-A, word-B, capability-in, offer-in, used, uses, is-record, outside, has-stray, record-number, words-at}
 use Rattle.book_rules.specs.Force.{View, plain}
 use Rattle.book_rules.specs.Refusals.{judge, reply, clock-number, capability-number, standing-number, variation-number, facility-number, outage-number, notice-number, withdrawal-number, look-up-number, period-number, look-up-reply, total-reply}
 
@@ -37,9 +37,10 @@ which-of b (suc (suc (suc (suc (suc (suc (suc (suc zero)))))))) h g e = is-look-
 which-of b (suc (suc (suc (suc (suc (suc (suc (suc (suc zero))))))))) h g e = is-total e
 which-of b (suc (suc (suc (suc (suc (suc (suc (suc (suc (suc k)))))))))) h g e = absurd (omega arith)
 
--- What a record that passes 2 and 3 names lies in the book.
+-- What a record that passes 2, 3 and 4 names lies in the book, and it carries nothing else.
 pub record Named (F S : ℕ) (b : List ℕ) : Type 0 where
   pub which : Which b
+  pub none-stray : has-stray b ≡ false
   pub facility-in : uses b 6 ≡ true → facility-of b < F
   pub service-in : uses b 7 ≡ true → service-of b < S
 
@@ -63,6 +64,7 @@ named F S b e =
     let f = uses b 6 && leb F (facility-of b) in
     let s = uses b 7 && leb S (service-of b) in
     record {
+      none-stray = draw-zero (has-stray b) 4 (omega arith) (y .1);
       which = which-of b (call-of b) (leb-true 1 (call-of b) (and-left (leb 1 (call-of b)) (leb (call-of b) 9) k)) (leb-true (call-of b) 9 (and-right (leb 1 (call-of b)) (leb (call-of b) 9) k)) refl;
       facility-in = λ u. leb-false F (facility-of b) (passed (uses b 6) (leb F (facility-of b)) (or-left f s o) u);
       service-in = λ u. leb-false S (service-of b) (passed (uses b 7) (leb S (service-of b)) (or-right f s o) u);

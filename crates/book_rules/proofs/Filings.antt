@@ -1,24 +1,25 @@
 -- What each accepted call files, in the book's words and in the list: the same thing under the same key, and nothing under any other.
 use mathlib.Core.Path.{_≡_, refl, sym, _∙_, ap}
 use mathlib.Core.Logic.{_≢_, _⊎_, inl, inr}
-use mathlib.Core.Bool.{Bool, true, false, cond, _&&_}
+use mathlib.Core.Bool.{Bool, true, false, _&&_}
 use mathlib.Core.List.{List, [], _∷_}
 use mathlib.Core.Option.{Option, none, some}
-use Prim.Native.Nat.{ℕ, suc}
+use Prim.Native.Nat.{ℕ}
 use native.Mathlib.Omega.{arith}
 use lib.Dec.{eqb}
 use lib.IntN.{ℤ, pos}
 use lib.ListN.{length}
 use borrow.Author.Tests.{eq-eqb, ne-eqb, eqb-true}
 use Rattle.offer_rules.specs.Numbers.{toNat}
-use Rattle.offer_rules.specs.Offer.{pairs, all-blank}
+use Rattle.offer_rules.specs.Offer.{Held, accepted-at}
 use Rattle.offer_rules.specs.Gate.{Window}
 use Rattle.book_rules.specs.Record.{call-of, facility-of, service-of, period-word, reason-of, word-A, word-B, capability-in, offer-in}
-use Rattle.book_rules.specs.Words.{put, cell, holding, standing-stamp, variation-stamp}
+use Rattle.book_rules.specs.Words.{put, cell, ramps-fit, holding, standing-stamp, variation-stamp}
 use Rattle.book_rules.specs.Force.{variation-made}
-use Rattle.book_rules.specs.Book.{facilities-in, services-in, held, write-cell, outage-words, book-accept}
-use Rattle.book_rules.specs.ListMachine.{newest, list-clock, list-capability, list-outage, list-notice, list-standing, list-variation}
+use Rattle.book_rules.specs.Book.{facilities-in, services-in, now-in, held, write-cell, outage-words, book-accept}
+use Rattle.book_rules.specs.ListMachine.{newest, list-clock, list-now, list-capability, list-outage, list-notice, list-standing, list-variation}
 use Rattle.book_rules.proofs.Calls.{length-capability, length-offer}
+use Rattle.book_rules.proofs.Cells.{held-back, made-back, length-cell, length-holding}
 use Rattle.book_rules.proofs.Places.{Key, clockK, noticeK, capabilityK, outageK, standingK, variationK, place, width}
 
 -- ---- the two readings of a key
@@ -27,9 +28,9 @@ unfoldable pub window-words : Window → List ℤ
 window-words v = v .first ∷ (v .last ∷ [])
 
 -- No words for no offer.
-unfoldable pub offer-words : Option (List ℤ) → List ℤ
+unfoldable pub offer-words : Option Held → List ℤ
 offer-words none = []
-offer-words (some o) = pos 1 ∷ o
+offer-words (some h) = h .minute ∷ h .offer
 
 unfoldable pub listed : List (List ℕ) → Key → List ℤ
 listed l clockK = list-clock l ∷ []
@@ -48,28 +49,13 @@ shown (outageK f) c = c
 shown (standingK f s k) c = offer-words (held standing-stamp c)
 shown (variationK f s p) c = offer-words (held (variation-stamp p) c)
 
--- ---- a cell written and read
-
--- What is held under a stamp other than 0, which an empty cell has, is read back.
-pub held-back : (stamp : ℕ) (x : Option (List ℤ)) → (stamp ≡ 0 → ⊥) → held stamp (holding stamp x) ≡ x
-unfolding held holding cell
-held-back stamp none n = rw (ne-eqb 0 stamp (λ z. n (sym z)))
-held-back stamp (some o) n = rw (eq-eqb stamp stamp refl)
-
-pub length-holding : (stamp : ℕ) (o : List ℤ) → length o ≡ 23 → length (holding stamp (variation-made o)) ≡ 24
-unfolding variation-made holding cell
-length-holding stamp o h = go (all-blank (pairs o))
-  where
-    go : (t : Bool) → length (holding stamp (cond t none (some o))) ≡ 24
-    go true = refl
-    go false = ap suc h
-
 -- ---- what a call files
 
-pub record Files (b : List ℕ) (κ : Key) (v : List ℤ) : Type 0 where
-  pub writes : (w : List ℤ) → book-accept w b ≡ put w (place (facilities-in w) (services-in w) κ) v
+-- At a minute, which an offer keeps.
+pub record Files (now : ℕ) (b : List ℕ) (κ : Key) (v : List ℤ) : Type 0 where
+  pub writes : (w : List ℤ) → now-in w ≡ now → book-accept w b ≡ put w (place (facilities-in w) (services-in w) κ) v
   pub sized : length v ≡ width κ
-  pub shows : (l : List (List ℕ)) → shown κ v ≡ listed (b ∷ l) κ
+  pub shows : (l : List (List ℕ)) → list-now l ≡ now → shown κ v ≡ listed (b ∷ l) κ
   pub keeps : (l : List (List ℕ)) (κ′ : Key) → κ′ ≢ κ → listed (b ∷ l) κ′ ≡ listed l κ′
 
 -- Calls 8 and 9.
@@ -96,9 +82,9 @@ module _ (b : List ℕ) where
   clock-keeps e l (standingK f s k) n = rw e
   clock-keeps e l (variationK f s p) n = rw e
 
-  pub clock-files : call-of b ≡ 1 → Files b clockK (word-A b ∷ [])
+  pub clock-files : (now : ℕ) → call-of b ≡ 1 → Files now b clockK (word-A b ∷ [])
   unfolding book-accept place width shown listed newest list-clock
-  clock-files e = record { writes = λ w. rw e; sized = refl; shows = λ l. rw e; keeps = clock-keeps e }
+  clock-files now e = record { writes = λ w _. rw e; sized = refl; shows = λ l _. rw e; keeps = clock-keeps e }
 
   capability-keeps : call-of b ≡ 2 → (l : List (List ℕ)) (κ : Key) → κ ≢ capabilityK (facility-of b) → listed (b ∷ l) κ ≡ listed l κ
   unfolding listed newest list-clock list-notice list-capability list-outage list-standing list-variation
@@ -109,12 +95,12 @@ module _ (b : List ℕ) where
   capability-keeps e l (standingK f s k) n = rw e
   capability-keeps e l (variationK f s p) n = rw e
 
-  pub capability-files : call-of b ≡ 2 → Files b (capabilityK (facility-of b)) (capability-in b)
+  pub capability-files : (now : ℕ) → call-of b ≡ 2 → Files now b (capabilityK (facility-of b)) (capability-in b)
   unfolding book-accept place width shown listed newest list-capability
-  capability-files e = record {
-    writes = λ w. rw e;
+  capability-files now e = record {
+    writes = λ w _. rw e;
     sized = length-capability b;
-    shows = λ l. rw (e, eq-eqb (facility-of b) (facility-of b) refl);
+    shows = λ l _. rw (e, eq-eqb (facility-of b) (facility-of b) refl);
     keeps = capability-keeps e;
   }
 
@@ -127,12 +113,12 @@ module _ (b : List ℕ) where
   outage-keeps e l (standingK f s k) n = rw e
   outage-keeps e l (variationK f s p) n = rw e
 
-  pub outage-files : call-of b ≡ 5 → Files b (outageK (facility-of b)) (outage-words (toNat (word-A b)) (toNat (word-B b)))
+  pub outage-files : (now : ℕ) → call-of b ≡ 5 → Files now b (outageK (facility-of b)) (outage-words (toNat (word-A b)) (toNat (word-B b)))
   unfolding book-accept place width shown listed newest list-outage window-words outage-words
-  outage-files e = record {
-    writes = λ w. rw e;
+  outage-files now e = record {
+    writes = λ w _. rw e;
     sized = refl;
-    shows = λ l. rw (e, eq-eqb (facility-of b) (facility-of b) refl);
+    shows = λ l _. rw (e, eq-eqb (facility-of b) (facility-of b) refl);
     keeps = outage-keeps e;
   }
 
@@ -145,12 +131,12 @@ module _ (b : List ℕ) where
   notice-keeps e l (standingK f s k) n = rw e
   notice-keeps e l (variationK f s p) n = rw e
 
-  pub notice-files : call-of b ≡ 6 → Files b (noticeK (reason-of b)) (word-A b ∷ (word-B b ∷ []))
+  pub notice-files : (now : ℕ) → call-of b ≡ 6 → Files now b (noticeK (reason-of b)) (word-A b ∷ (word-B b ∷ []))
   unfolding book-accept place width shown listed list-notice window-words
-  notice-files e = record {
-    writes = λ w. rw e;
+  notice-files now e = record {
+    writes = λ w _. rw e;
     sized = refl;
-    shows = λ l. rw (e, eq-eqb (reason-of b) (reason-of b) refl);
+    shows = λ l _. rw (e, eq-eqb (reason-of b) (reason-of b) refl);
     keeps = notice-keeps e;
   }
 
@@ -164,9 +150,9 @@ module _ (b : List ℕ) where
   withdrawal-keeps e l (standingK f s k) n = rw e
   withdrawal-keeps e l (variationK f s p) n = rw e
 
-  pub withdrawal-files : call-of b ≡ 7 → Files b (noticeK 5) (pos 1 ∷ (pos 0 ∷ []))
+  pub withdrawal-files : (now : ℕ) → call-of b ≡ 7 → Files now b (noticeK 5) (pos 1 ∷ (pos 0 ∷ []))
   unfolding book-accept place width shown listed list-notice window-words
-  withdrawal-files e = record { writes = λ w. rw e; sized = refl; shows = λ l. rw e; keeps = withdrawal-keeps e }
+  withdrawal-files now e = record { writes = λ w _. rw e; sized = refl; shows = λ l _. rw e; keeps = withdrawal-keeps e }
 
   module _ (p : ℕ) (is : period-word b ≡ pos p) where
     standing-keeps : call-of b ≡ 3 → (l : List (List ℕ)) (κ : Key) → κ ≢ standingK (facility-of b) (service-of b) p → listed (b ∷ l) κ ≡ listed l κ
@@ -179,12 +165,15 @@ module _ (b : List ℕ) where
         rw (e, is, three-apart (facility-of b) (service-of b) p f s k (λ x y z. n (λ i. standingK (sym x i) (sym y i) (sym z i))))
     standing-keeps e l (variationK f s q) n = rw e
 
-    pub standing-files : call-of b ≡ 3 → Files b (standingK (facility-of b) (service-of b) p) (cell standing-stamp (offer-in b))
-    unfolding book-accept write-cell place width shown listed newest list-standing held cell
-    standing-files e = record {
-      writes = λ w. rw (e, is);
-      sized = ap suc (length-offer b);
-      shows = λ l. rw (e, is, eq-eqb (facility-of b) (facility-of b) refl, eq-eqb (service-of b) (service-of b) refl, eq-eqb p p refl);
+    pub standing-files : (now : ℕ) → ramps-fit (offer-in b) ≡ true → call-of b ≡ 3
+        → Files now b (standingK (facility-of b) (service-of b) p) (cell standing-stamp (accepted-at now (offer-in b)))
+    unfolding book-accept write-cell place width shown listed newest list-standing
+    standing-files now fit e = record {
+      writes = λ w t. rw (e, is, t);
+      sized = length-cell standing-stamp (accepted-at now (offer-in b)) (length-offer b);
+      shows = λ l t.
+          ap offer-words (held-back standing-stamp now (offer-in b) (λ z. omega arith) (length-offer b) fit)
+          ∙ rw (e, is, t, eq-eqb (facility-of b) (facility-of b) refl, eq-eqb (service-of b) (service-of b) refl, eq-eqb p p refl);
       keeps = standing-keeps e;
     }
 
@@ -198,15 +187,15 @@ module _ (b : List ℕ) where
     variation-keeps e l (variationK f s q) n =
         rw (e, is, three-apart (facility-of b) (service-of b) p f s q (λ x y z. n (λ i. variationK (sym x i) (sym y i) (sym z i))))
 
-    pub variation-files : call-of b ≡ 4
-        → Files b (variationK (facility-of b) (service-of b) p) (holding (variation-stamp p) (variation-made (offer-in b)))
+    pub variation-files : (now : ℕ) → ramps-fit (offer-in b) ≡ true → call-of b ≡ 4
+        → Files now b (variationK (facility-of b) (service-of b) p) (holding (variation-stamp p) (variation-made now (offer-in b)))
     unfolding book-accept write-cell place width shown listed newest list-variation
-    variation-files e = record {
-      writes = λ w. rw (e, is);
-      sized = length-holding (variation-stamp p) (offer-in b) (length-offer b);
-      shows = λ l.
-          ap offer-words (held-back (variation-stamp p) (variation-made (offer-in b)) (λ z. omega arith))
-          ∙ rw (e, is, eq-eqb (facility-of b) (facility-of b) refl, eq-eqb (service-of b) (service-of b) refl, eq-eqb p p refl);
+    variation-files now fit e = record {
+      writes = λ w t. rw (e, is, t);
+      sized = length-holding (variation-stamp p) now (offer-in b) (length-offer b);
+      shows = λ l t.
+          ap offer-words (made-back p now (offer-in b) (length-offer b) fit)
+          ∙ rw (e, is, t, eq-eqb (facility-of b) (facility-of b) refl, eq-eqb (service-of b) (service-of b) refl, eq-eqb p p refl);
       keeps = variation-keeps e;
     }
 

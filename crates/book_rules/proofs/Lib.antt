@@ -1,6 +1,7 @@
 -- Proofs of the claims in specs/Claims and specs/ContractedRun, from the bottom up.
 pub mod Parts
 pub mod Calls
+pub mod Cells
 pub mod Rules
 pub mod Places
 pub mod Filings
@@ -13,3 +14,4 @@ pub mod ByKind
 pub mod ByNumber
 pub mod OneCall
 pub mod Afterwards
+pub mod Ageless

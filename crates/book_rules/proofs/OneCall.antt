@@ -1,20 +1,21 @@
 -- One call on a usable book by a record that passes 2, 3 and 4: what it answers and leaves, call by call. The code's proofs cite these.
-use mathlib.Core.Path.{_≡_, _∙_}
-use mathlib.Core.Bool.{true, false, cond, not, _&&_}
+use mathlib.Core.Path.{_≡_, refl, sym, _∙_, ap}
+use mathlib.Core.Bool.{Bool, true, false, cond, not, _&&_, true≢false}
 use mathlib.Core.List.{List, [], _∷_}
 use Prim.Native.Nat.{ℕ, _≤_}
 use native.Mathlib.Omega.{arith}
 use lib.Dec.{leb, eqb}
 use lib.IntN.{ℤ, pos}
 use lib.ListN.{length}
-use borrow.Author.Tests.{leb-true, ne-eqb}
+use borrow.Author.Tests.{leb-true, eqb-true, eqb-false, ne-eqb}
 use Rattle.offer_rules.specs.Numbers.{eqZ, toNat, word, beyond, _then_}
 use Rattle.offer_rules.proofs.Drawn.{and-left, and-right}
 use Rattle.book_rules.specs.Record.{call-of, facility-of, service-of, period-word, reason-of, word-A, word-B, capability-in, offer-in, record-number, sizes-ok}
 use Rattle.book_rules.specs.Words.{put, book-size, book-mark, book-version, clock-place, notice-place, facility-place, outage-place, is-book}
-use Rattle.book_rules.specs.Force.{plain}
+use Rattle.book_rules.specs.Force.{Answer, plain}
 use Rattle.book_rules.specs.Refusals.{judge, reply, number, answer, after}
 use Rattle.book_rules.specs.Book.{facilities-in, services-in, outage-words, file-standing, file-variation, book-view, book-accept, book-answer, book-after}
+use Rattle.book_rules.specs.Claims.{is-accepted}
 use Rattle.book_rules.proofs.Calls.{reply-plain}
 
 -- ---- a usable book
@@ -66,6 +67,33 @@ module _ (w : List ℤ) (b : List ℕ) where
     accepted-filing k e h z =
         let x = accepted-call z in
         (x .0 ∙ reply-plain (book-view w) b k e (ne-eqb k 8 (λ q. omega arith)) (ne-eqb k 9 (λ q. omega arith)), x .1)
+
+-- ---- an accepted call
+
+-- What it has passed, and the words that it leaves.
+pub record Passed (w : List ℤ) (b : List ℕ) : Type 0 where
+  pub usable : is-book w ≡ true
+  pub taken : first-number w b ≡ 0
+  pub judged : judge (book-view w) b ≡ 0
+  pub left : book-after w b ≡ book-accept w b
+
+pub accepted-on : (w : List ℤ) (b : List ℕ) → is-accepted w b ≡ true → Passed w b
+unfolding plain
+accepted-on w b a = go (is-book w) refl (eqb (first-number w b) 0) refl (eqb (judge (book-view w) b) 0) refl
+  where
+    -- A call that draws a number is not accepted.
+    not-drawn : (n : ℕ) → book-answer w b ≡ plain n → eqb n 0 ≡ false → ⊥
+    not-drawn n e z = true≢false (sym a ∙ ap (λ (x : Answer). eqb (x .number) 0) e ∙ z)
+
+    go : (t : Bool) → is-book w ≡ t → (u : Bool) → eqb (first-number w b) 0 ≡ u → (v : Bool) → eqb (judge (book-view w) b) 0 ≡ v → Passed w b
+    go false et u eu v ev = absurd (not-drawn 1 (unusable w b et .0) refl)
+    go true et false eu v ev = absurd (not-drawn (first-number w b) (turned-away w b et (eqb-false (first-number w b) 0 eu) .0) eu)
+    go true et true eu false ev =
+        absurd (not-drawn (judge (book-view w) b) (refused-call w b et (eqb-true (first-number w b) 0 eu) (judge (book-view w) b) refl (eqb-false (judge (book-view w) b) 0 ev) .0) ev)
+    go true et true eu true ev =
+        let taken = eqb-true (first-number w b) 0 eu in
+        let judged = eqb-true (judge (book-view w) b) 0 ev in
+        record { usable = et; taken = taken; judged = judged; left = accepted-call w b et taken judged .1 }
 
 -- ---- what each accepted call writes
 

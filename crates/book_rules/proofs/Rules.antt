@@ -1,5 +1,6 @@
 -- Two states that show the same where the rules look draw the same number and give the same answer.
 use mathlib.Core.Path.{_≡_, refl, sym, _∙_, ap, ap₂}
+use mathlib.Core.Logic.{inl, inr}
 use mathlib.Core.Bool.{Bool, true, false}
 use mathlib.Core.List.{List}
 use mathlib.Core.Option.{Option}
@@ -9,13 +10,15 @@ use lib.Dec.{eqb}
 use lib.IntN.{ℤ, pos, _+ℤ_}
 use Rattle.offer_rules.specs.Numbers.{toNat, _then_}
 use Rattle.offer_rules.specs.Time.{slots, slot-of, start-of, horizon-end, slot-refused, period-refused}
-use Rattle.offer_rules.specs.Offer.{offer-number, kind-of}
+use Rattle.offer_rules.specs.Offer.{Held, offer-number, kind-of}
 use Rattle.offer_rules.proofs.Drawn.{then-eq, then-zero, draw-zero}
 use Rattle.offer_rules.proofs.Periods.{slot-is, period-is}
-use Rattle.book_rules.specs.Record.{call-of, facility-of, service-of, period-word, reason-of, word-A, word-B, capability-in, offer-in, uses}
+use Rattle.book_rules.specs.Record.{call-of, facility-of, service-of, period-word, reason-of, word-A, word-B, capability-in, offer-in, uses, has-stray}
+use Rattle.book_rules.specs.Words.{ramps-fit}
 use Rattle.book_rules.specs.Force.{View, InForce, first-of, in-force, will-stand, pairs-of, counted, offered, count-in-force, sum-in-force, found, totalled}
 use Rattle.book_rules.specs.Refusals.{clock-number, capability-number, facility-number, admission-number, admitted-standing, admitted-variation, revision-number, grounds, gate-number, period-number, force-number, standing-number, variation-number, look-up-number, outage-number, judge, reply, look-up-reply, total-reply}
 use Rattle.book_rules.proofs.Calls.{Which, is-clock, is-capability, is-standing, is-variation, is-outage, is-notice, is-withdrawal, is-look-up, is-total, Named, judge-clock, judge-capability, judge-standing, judge-variation, judge-outage, judge-notice, judge-withdrawal, judge-look-up, judge-total, reply-look-up, reply-total, reply-plain, capability-uses, standing-uses, variation-uses, outage-uses, look-up-uses, total-uses}
+use Rattle.book_rules.proofs.Cells.{offer-fits}
 
 -- ---- what an accepted offer or look-up has passed
 
@@ -36,6 +39,24 @@ pub variation-accepted : (vw : View) (f s : ℕ) (p : ℤ) (reason : ℕ) (o : L
     → (p ≡ pos (toNat p)) × (vw .now < start-of (toNat p)) × (toNat p < horizon-end (vw .now))
 unfolding variation-number
 variation-accepted vw f s p reason o e = period-is (vw .now) p (admitted (vw .capability f) s (period-refused (vw .now) p) (then-zero _ _ e .0))
+
+-- An offer that is accepted has ramps that a cell gives back.
+module _ (vw : View) (b : List ℕ) (none-stray : has-stray b ≡ false) where
+  pub admitted-standing-fits : (k : ℕ) → call-of b ≡ 3 → admitted-standing vw (facility-of b) (service-of b) k (offer-in b) ≡ 0 → ramps-fit (offer-in b) ≡ true
+  unfolding admitted-standing
+  admitted-standing-fits k e z = offer-fits _ _ 0 b none-stray (inl e) (then-zero _ _ z .0)
+
+  pub admitted-variation-fits : (p reason : ℕ) → call-of b ≡ 4 → admitted-variation vw (facility-of b) (service-of b) p reason (offer-in b) ≡ 0 → ramps-fit (offer-in b) ≡ true
+  unfolding admitted-variation
+  admitted-variation-fits p reason e z = offer-fits _ _ reason b none-stray (inr e) (then-zero _ _ z .0)
+
+  pub standing-fits : call-of b ≡ 3 → judge vw b ≡ 0 → ramps-fit (offer-in b) ≡ true
+  unfolding standing-number
+  standing-fits e z = admitted-standing-fits (toNat (period-word b)) e (then-zero _ _ (sym (judge-standing vw b e) ∙ z) .1)
+
+  pub variation-fits : call-of b ≡ 4 → judge vw b ≡ 0 → ramps-fit (offer-in b) ≡ true
+  unfolding variation-number
+  variation-fits e z = admitted-variation-fits (toNat (period-word b)) (reason-of b) e (then-zero _ _ (sym (judge-variation vw b e) ∙ z) .1)
 
 -- Q says for which facilities two states show the same.
 module _ (F S : ℕ) (Q : ℕ → Type 0) where
@@ -59,7 +80,7 @@ module _ (F S : ℕ) (Q : ℕ → Type 0) where
 
     afterwards-same : (f s p : ℕ) (o : List ℤ) → Q f → f < F → s < S → will-stand u f s p o ≡ will-stand v f s p o
     unfolding will-stand
-    afterwards-same f s p o q hf hs = ap (first-of _) (r .standing-same f s (slot-of p) q hf hs (omega arith))
+    afterwards-same f s p o q hf hs = rw (r .now-same, r .standing-same f s (slot-of p) q hf hs (omega arith))
 
     grounds-same : (f : ℕ) → Q f → f < F → grounds u f ≡ grounds v f
     unfolding grounds
@@ -77,7 +98,7 @@ module _ (F S : ℕ) (Q : ℕ → Type 0) where
         let c = r .capability-same f q hf in
         then-eq _ _ _ _ (ap (λ (x : List ℤ). admission-number x s (slot-refused k)) c) λ e.
         then-eq _ _ _ _ (ap₂ (λ (l x : List ℤ). offer-number l x s 0 o) (r .limits-same) c) λ _.
-        ap₂ (λ (n : ℕ) (held : Option (List ℤ)). revision-number n (toNat k) held o) (r .now-same)
+        ap₂ (λ (n : ℕ) (held : Option Held). revision-number n (toNat k) held o) (r .now-same)
         (r .standing-same f s (toNat k) q hf hs (slot-is k (admitted (u .capability f) s (slot-refused k) e) .1))
 
     variation-number-same : (f s : ℕ) (p : ℤ) (reason : ℕ) (o : List ℤ) → Q f → f < F → s < S
@@ -139,7 +160,7 @@ module _ (F S : ℕ) (Q : ℕ → Type 0) where
         let y = look-up-uses b e in
         let p = then-zero _ _ (then-zero _ _ (sym (judge-look-up u b e) ∙ z) .1) .0 in
         reply-look-up u b e
-        ∙ ap found (force-same (facility-of b) (service-of b) (toNat (period-word b)) (q (y .0)) (n .facility-in (y .0)) (n .service-in (y .1)) (period-passed (u .now) (period-word b) p .1))
+        ∙ ap₂ found (r .now-same) (force-same (facility-of b) (service-of b) (toNat (period-word b)) (q (y .0)) (n .facility-in (y .0)) (n .service-in (y .1)) (period-passed (u .now) (period-word b) p .1))
         ∙ sym (reply-look-up v b e)
 
     module _ (all : (f : ℕ) → Q f) (s p : ℕ) (hs : s < S) (hp : u .now < start-of p) where

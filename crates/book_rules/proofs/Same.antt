@@ -14,6 +14,7 @@ use lib.ListN.{length}
 use borrow.Author.Tests.{leb-true, ne-eqb, le-ltb, not-false}
 use Rattle.offer_rules.specs.Numbers.{toNat, word, between, beyond}
 use Rattle.offer_rules.specs.Time.{slot-of, start-of, horizon-end}
+use Rattle.offer_rules.specs.Offer.{Held, accepted-at}
 use Rattle.offer_rules.specs.Gate.{Window}
 use Rattle.offer_rules.proofs.Drawn.{and-left, and-right, or-left, draw-zero}
 use Rattle.offer_rules.proofs.Periods.{within, one-of-a-slot}
@@ -21,16 +22,13 @@ use Rattle.book_rules.specs.Record.{facility-of, service-of, period-word
 use Rattle.book_rules.specs.Words.{part, put, book-size, book-mark, book-version, clock-place, limits-place, cell-place, standing-half, variation-half, cell, holding, standing-stamp, variation-stamp}
 use Rattle.book_rules.specs.Force.{variation-made}
 use Rattle.book_rules.specs.Refusals.{judge, clock-number, notice-number}
-use Rattle.book_rules.specs.Book.{facilities-in, services-in, window-in, held, book-view, book-accept}
-use Rattle.book_rules.specs.ListMachine.{list-clock, list-view}
+use Rattle.book_rules.specs.Book.{facilities-in, services-in, now-in, window-in, held, book-view, book-accept}
+use Rattle.book_rules.specs.ListMachine.{list-clock, list-now, list-view}
 use Rattle.book_rules.proofs.Parts.{length-put, part-put, part-apart, word-before, word-of-part}
 use Rattle.book_rules.proofs.Calls.{Which, is-clock, is-capability, is-standing, is-variation, is-outage, is-notice, is-withdrawal, is-look-up, is-total, Named, judge-clock, judge-standing, judge-variation, judge-notice, capability-uses, standing-uses, variation-uses, outage-uses}
 use Rattle.book_rules.proofs.Places.{Key, clockK, noticeK, capabilityK, outageK, standingK, variationK, Key-discrete, place, width, spot, Valid, place-inside, place-late, limits-apart, places-apart, TwoPeriods, two-periods}
 use Rattle.book_rules.proofs.Filings.{window-words, offer-words, listed, shown, Files, FilesNothing, clock-files, capability-files, standing-files, variation-files, outage-files, notice-files, withdrawal-files, look-up-files, total-files}
-use Rattle.book_rules.proofs.Rules.{Agree, standing-accepted, variation-accepted}
-
-abbrev pub list-now : List (List ℕ) → ℕ
-list-now l = toNat (list-clock l)
+use Rattle.book_rules.proofs.Rules.{Agree, standing-accepted, variation-accepted, standing-fits, variation-fits}
 
 -- A key that the rules may ask for at this time: they ask for no variation of a period that has begun.
 abbrev pub Alive : ℕ → Key → Type 0
@@ -76,23 +74,23 @@ other-stamp n m c e h = rw (e, ne-eqb m n h)
 stamps-differ : (q p : ℕ) → q ≢ p → variation-stamp p ≢ variation-stamp q
 stamps-differ q p n e = n (omega arith)
 
-none-for-another : (p : ℕ) (x : Option (List ℤ)) (q : ℕ) → q ≢ p → held (variation-stamp q) (holding (variation-stamp p) x) ≡ none
+none-for-another : (p : ℕ) (x : Option Held) (q : ℕ) → q ≢ p → held (variation-stamp q) (holding (variation-stamp p) x) ≡ none
 unfolding holding cell
 none-for-another p none q n = other-stamp (variation-stamp q) 0 (holding (variation-stamp p) none) refl (λ e. omega arith)
-none-for-another p (some o) q n = other-stamp (variation-stamp q) (variation-stamp p) (holding (variation-stamp p) (some o)) refl (stamps-differ q p n)
+none-for-another p (some h) q n = other-stamp (variation-stamp q) (variation-stamp p) (holding (variation-stamp p) (some h)) refl (stamps-differ q p n)
 
 -- Back from words to what they show.
-offer-back : List ℤ → Option (List ℤ)
+offer-back : List ℤ → Option Held
 offer-back [] = none
-offer-back (x ∷ o) = some o
+offer-back (m ∷ o) = some (record { offer = o; minute = m })
 
-pub offer-there-and-back : (x y : Option (List ℤ)) → offer-words x ≡ offer-words y → x ≡ y
+pub offer-there-and-back : (x y : Option Held) → offer-words x ≡ offer-words y → x ≡ y
 unfolding offer-words offer-back
 offer-there-and-back x y e = sym (back x) ∙ ap offer-back e ∙ back y
   where
-    back : (x : Option (List ℤ)) → offer-back (offer-words x) ≡ x
+    back : (x : Option Held) → offer-back (offer-words x) ≡ x
     back none = refl
-    back (some o) = refl
+    back (some h) = refl
 
 pub window-there-and-back : (x y : Window) → window-words x ≡ window-words y → x ≡ y
 unfolding window-words window-in
@@ -135,8 +133,7 @@ module _ (F S : ℕ) (limits : List ℤ) where
     unfolding shown listed place width
     clock-is = sym (word-of-part clock-place 1 0 w (omega arith)) ∙ ap (λ (c : List ℤ). word c 0) (r .at-same clockK tt tt)
 
-    now-is : book-view w .now ≡ list-now l
-    unfolding book-view
+    pub now-is : now-in w ≡ list-now l
     now-is = ap toNat clock-is
 
     pub agree : Agree F S Everyone (book-view w) (list-view F S limits l)
@@ -165,7 +162,7 @@ module _ (F S : ℕ) (limits : List ℤ) where
 
   -- ---- one more filing
 
-  module _ (w : List ℤ) (l : List (List ℕ)) (r : Same w l) (b : List ℕ) (κ₀ : Key) (v : List ℤ) (x : Files b κ₀ v)
+  module _ (w : List ℤ) (l : List (List ℕ)) (r : Same w l) (b : List ℕ) (κ₀ : Key) (v : List ℤ) (x : Files (list-now l) b κ₀ v)
       (valid : Valid F S κ₀) (no-other : HoldsNoOther κ₀ v) (later : Later b l) (near : Near (list-now l) κ₀) where
     abbrev written : List ℤ
     written = put w (place F S κ₀) v
@@ -181,7 +178,7 @@ module _ (F S : ℕ) (limits : List ℤ) where
 
     -- Under the key itself.
     at-key : shown κ₀ (part (place F S κ₀) (width κ₀) written) ≡ listed (b ∷ l) κ₀
-    at-key = ap (shown κ₀) (part-put w (place F S κ₀) v room (width κ₀) (x .sized)) ∙ x .shows l
+    at-key = ap (shown κ₀) (part-put w (place F S κ₀) v room (width κ₀) (x .sized)) ∙ x .shows l refl
 
     -- Under a key with another place.
     at-other : (κ : Key) → Valid F S κ → spot κ ≢ spot κ₀ → part (place F S κ) (width κ) written ≡ part (place F S κ) (width κ) w
@@ -230,7 +227,7 @@ module _ (F S : ℕ) (limits : List ℤ) where
         go (no q) = x .keeps l (variationK f s p) q ∙ r .none-far f s p (omega (arith, later .0))
 
     pub filed-same : Same (book-accept w b) (b ∷ l)
-    filed-same = rw (x .writes w, facilities-is w l r, services-is w l r) (record {
+    filed-same = rw (x .writes w (now-is w l r), facilities-is w l r, services-is w l r) (record {
       fits = omega (arith, length-put w (place F S κ₀) v room, r .fits);
       mark-is = word-kept 0 (omega arith) ∙ r .mark-is;
       version-is = word-kept 1 (omega arith) ∙ r .version-is;
@@ -277,7 +274,7 @@ module _ (F S : ℕ) (limits : List ℤ) where
   is-clockK (variationK f s p) = false
 
   -- A filing under any other key leaves the clock.
-  clock-stays : (w : List ℤ) (l : List (List ℕ)) (b : List ℕ) (κ : Key) (v : List ℤ) → Same w l → Files b κ v → is-clockK κ ≡ false → Later b l
+  clock-stays : (w : List ℤ) (l : List (List ℕ)) (b : List ℕ) (κ : Key) (v : List ℤ) → Same w l → Files (list-now l) b κ v → is-clockK κ ≡ false → Later b l
   unfolding listed is-clockK
   clock-stays w l b κ v r x e =
       let q : list-clock (b ∷ l) ≡ list-clock l = ap (λ (c : List ℤ). word c 0) (x .keeps l clockK (λ p. true≢false (ap is-clockK p ∙ e))) in
@@ -291,34 +288,39 @@ module _ (F S : ℕ) (limits : List ℤ) where
   accept-same w l b r n e = go (n .which)
     where
       now≡ : book-view w .now ≡ list-now l
-      now≡ = now-is w l r
+      now≡ = unfold book-view in now-is w l r
 
-      file : (κ : Key) (v : List ℤ) → Files b κ v → Valid F S κ → HoldsNoOther κ v → is-clockK κ ≡ false → Near (list-now l) κ → Same (book-accept w b) (b ∷ l)
+      now : ℕ
+      now = list-now l
+
+      file : (κ : Key) (v : List ℤ) → Files now b κ v → Valid F S κ → HoldsNoOther κ v → is-clockK κ ≡ false → Near (list-now l) κ → Same (book-accept w b) (b ∷ l)
       file κ v x vκ st c near = filed-same w l r b κ v x vκ st (clock-stays w l b κ v r x c) near
 
       go : Which b → Same (book-accept w b) (b ∷ l)
       go (is-clock k) =
-          let x = clock-files b k in
+          let x = clock-files b now k in
           let t = clock-rises (book-view w .now) (word-A b) (sym (judge-clock (book-view w) b k) ∙ e) in
-          let q : list-clock (b ∷ l) ≡ word-A b = unfold shown listed in sym (ap (λ (c : List ℤ). word c 0) (x .shows l)) in
+          let q : list-clock (b ∷ l) ≡ word-A b = unfold shown listed in sym (ap (λ (c : List ℤ). word c 0) (x .shows l refl)) in
           let h = ap toNat q in
           filed-same w l r b clockK (word-A b ∷ []) x tt tt (omega (arith, t .0, now≡), rw q (t .1)) tt
-      go (is-capability k) = file (capabilityK (facility-of b)) (capability-in b) (capability-files b k) (n .facility-in (capability-uses b k)) tt refl tt
+      go (is-capability k) = file (capabilityK (facility-of b)) (capability-in b) (capability-files b now k) (n .facility-in (capability-uses b k)) tt refl tt
       go (is-standing k) =
           let y = standing-uses b k in
           let s = standing-accepted (book-view w) (facility-of b) (service-of b) (period-word b) (offer-in b) (sym (judge-standing (book-view w) b k) ∙ e) in
-          file (standingK (facility-of b) (service-of b) (toNat (period-word b))) (cell standing-stamp (offer-in b)) (standing-files b (toNat (period-word b)) (s .0) k)
+          let x = standing-files b (toNat (period-word b)) (s .0) now (standing-fits (book-view w) b (n .none-stray) k e) k in
+          file (standingK (facility-of b) (service-of b) (toNat (period-word b))) (cell standing-stamp (accepted-at now (offer-in b))) x
           (n .facility-in (y .0), n .service-in (y .1), s .1) tt refl tt
       go (is-variation k) =
           let y = variation-uses b k in
           let s = variation-accepted (book-view w) (facility-of b) (service-of b) (period-word b) (reason-of b) (offer-in b) (sym (judge-variation (book-view w) b k) ∙ e) in
           let p = toNat (period-word b) in
-          let x = variation-made (offer-in b) in
-          file (variationK (facility-of b) (service-of b) p) (holding (variation-stamp p) x) (variation-files b p (s .0) k)
-          (n .facility-in (y .0), n .service-in (y .1)) (none-for-another p x) refl (omega (arith, s .1, now≡), omega (arith, s .2, now≡))
-      go (is-outage k) = file (outageK (facility-of b)) _ (outage-files b k) (n .facility-in (outage-uses b k)) tt refl tt
+          let made = variation-made now (offer-in b) in
+          let x = variation-files b p (s .0) now (variation-fits (book-view w) b (n .none-stray) k e) k in
+          file (variationK (facility-of b) (service-of b) p) (holding (variation-stamp p) made) x
+          (n .facility-in (y .0), n .service-in (y .1)) (none-for-another p made) refl (omega (arith, s .1, now≡), omega (arith, s .2, now≡))
+      go (is-outage k) = file (outageK (facility-of b)) _ (outage-files b now k) (n .facility-in (outage-uses b k)) tt refl tt
       go (is-notice k) =
-          file (noticeK (reason-of b)) _ (notice-files b k) (notice-kinds (reason-of b) (word-A b) (word-B b) (sym (judge-notice (book-view w) b k) ∙ e)) tt refl tt
-      go (is-withdrawal k) = file (noticeK 5) _ (withdrawal-files b k) (omega arith) tt refl tt
+          file (noticeK (reason-of b)) _ (notice-files b now k) (notice-kinds (reason-of b) (word-A b) (word-B b) (sym (judge-notice (book-view w) b k) ∙ e)) tt refl tt
+      go (is-withdrawal k) = file (noticeK 5) _ (withdrawal-files b now k) (omega arith) tt refl tt
       go (is-look-up k) = unfiled-same w l b (look-up-files b k) r
       go (is-total k) = unfiled-same w l b (total-files b k) r

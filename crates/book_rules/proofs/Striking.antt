@@ -12,17 +12,17 @@ use lib.ListN.{length}
 use borrow.Author.Tests.{eqb-true, eqb-false, not-true, not-false}
 use Rattle.offer_rules.specs.Numbers.{toNat, word, between}
 use Rattle.offer_rules.proofs.Drawn.{and-left, and-right, then-eq, then-zero}
-use Rattle.book_rules.specs.Record.{call-of, facility-of, service-of, period-word, reason-of, offer-in, used, uses, sizes-ok}
+use Rattle.book_rules.specs.Record.{call-of, facility-of, service-of, period-word, reason-of, offer-in, used, uses, has-stray, sizes-ok}
 use Rattle.book_rules.specs.Words.{opening-words, opening-number}
 use Rattle.book_rules.specs.Force.{View, Answer, plain, found, totalled}
 use Rattle.book_rules.specs.Refusals.{judge, reply, look-up-reply, total-reply, number, answer, after}
 use Rattle.book_rules.specs.Book.{book-answer, book-after, book-run}
-use Rattle.book_rules.specs.ListMachine.{list-view, list-answer, list-after}
+use Rattle.book_rules.specs.ListMachine.{list-now, list-view, list-answer, list-after}
 use Rattle.book_rules.specs.Claims.{is-others-filing, is-look-up-for, is-accepted, struck-out, look-ups, accepted-look-ups, StrikingOut, StrikingOutInside}
 use Rattle.book_rules.proofs.Calls.{Which, is-clock, is-capability, is-standing, is-variation, is-outage, is-notice, is-withdrawal, is-look-up, is-total, named, judge-standing, judge-variation}
 use Rattle.book_rules.proofs.Places.{Key, clockK, noticeK, capabilityK, outageK, standingK, variationK, Key-discrete}
 use Rattle.book_rules.proofs.Filings.{listed, Files, FilesNothing, clock-files, capability-files, standing-files, variation-files, outage-files, notice-files, withdrawal-files, look-up-files, total-files}
-use Rattle.book_rules.proofs.Rules.{Agree, judge-same, look-up-same, standing-accepted, variation-accepted}
+use Rattle.book_rules.proofs.Rules.{Agree, judge-same, look-up-same, standing-accepted, variation-accepted, standing-fits, variation-fits}
 use Rattle.book_rules.proofs.Same.{Same, offer-there-and-back, window-there-and-back}
 use Rattle.book_rules.proofs.Opening.{opening-same, sizes-opened}
 use Rattle.book_rules.proofs.EveryCall.{cond-eq, list-number, answer-same, after-same}
@@ -39,29 +39,29 @@ owner (standingK f s k) = suc f
 owner (variationK f s p) = suc f
 
 -- Whose key an accepted call files under.
-data Filed (b : List ℕ) : Type 0 where
-  for-nobody : (κ : Key) (v : List ℤ) → Files b κ v → owner κ ≡ 0 → between 2 5 (call-of b) ≡ false → uses b 6 ≡ false → Filed b
-  for-facility : (κ : Key) (v : List ℤ) → Files b κ v → owner κ ≡ suc (facility-of b) → between 2 5 (call-of b) ≡ true → Filed b
-  nothing-filed : FilesNothing b → between 2 5 (call-of b) ≡ false → Filed b
+data Filed (now : ℕ) (b : List ℕ) : Type 0 where
+  for-nobody : (κ : Key) (v : List ℤ) → Files now b κ v → owner κ ≡ 0 → between 2 5 (call-of b) ≡ false → uses b 6 ≡ false → Filed now b
+  for-facility : (κ : Key) (v : List ℤ) → Files now b κ v → owner κ ≡ suc (facility-of b) → between 2 5 (call-of b) ≡ true → Filed now b
+  nothing-filed : FilesNothing b → between 2 5 (call-of b) ≡ false → Filed now b
 
 filing : (k : ℕ) (b : List ℕ) → call-of b ≡ k → (t : Bool) → between 2 5 k ≡ t → between 2 5 (call-of b) ≡ t
 filing k b e t h = rw e h
 
-filed : (vw : View) (b : List ℕ) → Which b → judge vw b ≡ 0 → Filed b
+filed : (now : ℕ) (vw : View) (b : List ℕ) → has-stray b ≡ false → Which b → judge vw b ≡ 0 → Filed now b
 unfolding used
-filed vw b (is-clock e) z = for-nobody clockK _ (clock-files b e) refl (filing 1 b e false refl) (rw e)
-filed vw b (is-capability e) z = for-facility (capabilityK (facility-of b)) _ (capability-files b e) refl (filing 2 b e true refl)
-filed vw b (is-standing e) z =
+filed now vw b t (is-clock e) z = for-nobody clockK _ (clock-files b now e) refl (filing 1 b e false refl) (rw e)
+filed now vw b t (is-capability e) z = for-facility (capabilityK (facility-of b)) _ (capability-files b now e) refl (filing 2 b e true refl)
+filed now vw b t (is-standing e) z =
     let k = standing-accepted vw (facility-of b) (service-of b) (period-word b) (offer-in b) (sym (judge-standing vw b e) ∙ z) in
-    for-facility (standingK (facility-of b) (service-of b) (toNat (period-word b))) _ (standing-files b (toNat (period-word b)) (k .0) e) refl (filing 3 b e true refl)
-filed vw b (is-variation e) z =
+    for-facility (standingK (facility-of b) (service-of b) (toNat (period-word b))) _ (standing-files b (toNat (period-word b)) (k .0) now (standing-fits vw b t e z) e) refl (filing 3 b e true refl)
+filed now vw b t (is-variation e) z =
     let p = variation-accepted vw (facility-of b) (service-of b) (period-word b) (reason-of b) (offer-in b) (sym (judge-variation vw b e) ∙ z) in
-    for-facility (variationK (facility-of b) (service-of b) (toNat (period-word b))) _ (variation-files b (toNat (period-word b)) (p .0) e) refl (filing 4 b e true refl)
-filed vw b (is-outage e) z = for-facility (outageK (facility-of b)) _ (outage-files b e) refl (filing 5 b e true refl)
-filed vw b (is-notice e) z = for-nobody (noticeK (reason-of b)) _ (notice-files b e) refl (filing 6 b e false refl) (rw e)
-filed vw b (is-withdrawal e) z = for-nobody (noticeK 5) _ (withdrawal-files b e) refl (filing 7 b e false refl) (rw e)
-filed vw b (is-look-up e) z = nothing-filed (look-up-files b e) (filing 8 b e false refl)
-filed vw b (is-total e) z = nothing-filed (total-files b e) (filing 9 b e false refl)
+    for-facility (variationK (facility-of b) (service-of b) (toNat (period-word b))) _ (variation-files b (toNat (period-word b)) (p .0) now (variation-fits vw b t e z) e) refl (filing 4 b e true refl)
+filed now vw b t (is-outage e) z = for-facility (outageK (facility-of b)) _ (outage-files b now e) refl (filing 5 b e true refl)
+filed now vw b t (is-notice e) z = for-nobody (noticeK (reason-of b)) _ (notice-files b now e) refl (filing 6 b e false refl) (rw e)
+filed now vw b t (is-withdrawal e) z = for-nobody (noticeK 5) _ (withdrawal-files b now e) refl (filing 7 b e false refl) (rw e)
+filed now vw b t (is-look-up e) z = nothing-filed (look-up-files b e) (filing 8 b e false refl)
+filed now vw b t (is-total e) z = nothing-filed (total-files b e) (filing 9 b e false refl)
 
 pub reply-number : (vw : View) (b : List ℕ) → reply vw b .number ≡ 0
 unfolding reply look-up-reply total-reply found totalled plain
@@ -91,11 +91,16 @@ module _ (f : ℕ) where
   foreign : (g : ℕ) (κ κ′ : Key) → f ≢ g → Mine κ → owner κ′ ≡ suc g → κ ≢ κ′
   foreign g κ κ′ n m o q = n (m g (ap owner q ∙ o))
 
-  both : (b : List ℕ) (κ₀ : Key) (v : List ℤ) (l m : List (List ℕ)) → Files b κ₀ v → About l m → About (b ∷ l) (b ∷ m)
+  -- The clock is nobody's.
+  now-about : (l m : List (List ℕ)) → About l m → list-now l ≡ list-now m
+  unfolding listed
+  now-about l m r = ap (λ (c : List ℤ). toNat (word c 0)) (r clockK (λ g e. absurd (omega arith)))
+
+  both : (b : List ℕ) (κ₀ : Key) (v : List ℤ) (l m : List (List ℕ)) → Files (list-now l) b κ₀ v → About l m → About (b ∷ l) (b ∷ m)
   both b κ₀ v l m x r κ h = go (Key-discrete ℕ-discrete κ κ₀)
     where
       go : Dec (κ ≡ κ₀) → listed (b ∷ l) κ ≡ listed (b ∷ m) κ
-      go (yes q) = ap (listed (b ∷ l)) q ∙ sym (x .shows l) ∙ x .shows m ∙ ap (listed (b ∷ m)) (sym q)
+      go (yes q) = ap (listed (b ∷ l)) q ∙ sym (x .shows l refl) ∙ x .shows m (sym (now-about l m r)) ∙ ap (listed (b ∷ m)) (sym q)
       go (no q) = x .keeps l κ q ∙ r κ h ∙ sym (x .keeps m κ q)
 
   other-facility : (b : List ℕ) → is-others-filing f b ≡ true → (between 2 5 (call-of b) ≡ true) × (f ≢ facility-of b)
@@ -123,7 +128,7 @@ module _ (f : ℕ) where
       S-is = refl;
       S-is′ = refl;
       limits-same = refl;
-      now-same = ap (λ (c : List ℤ). toNat (word c 0)) (r clockK (λ g e. absurd (omega arith)));
+      now-same = now-about l m r;
       capability-same = λ g q _. r (capabilityK g) (λ h e. omega arith);
       outage-same = λ g q _. window-there-and-back _ _ (r (outageK g) (λ h e. omega arith));
       notice-same = λ k _ _. window-there-and-back _ _ (r (noticeK k) (λ g e. absurd (omega arith)));
@@ -165,16 +170,19 @@ module _ (f : ℕ) where
     unfolding after
     refused-list l b e = rw e
 
-    what-filed : (l : List (List ℕ)) (b : List ℕ) → eqb (list-number F S limits l b) 0 ≡ true → Filed b
+    what-filed : (l : List (List ℕ)) (b : List ℕ) → eqb (list-number F S limits l b) 0 ≡ true → Filed (list-now l) b
     unfolding number list-view
-    what-filed l b e = let z = then-zero _ _ (eqb-true (list-number F S limits l b) 0 e) in filed (view l) b (named F S b (z .0) .which) (z .1)
+    what-filed l b e =
+        let z = then-zero _ _ (eqb-true (list-number F S limits l b) 0 e) in
+        let n = named F S b (z .0) in
+        filed (list-now l) (view l) b (n .none-stray) (n .which) (z .1)
 
-    struck-about : (l m : List (List ℕ)) (b : List ℕ) → About l m → is-others-filing f b ≡ true → Filed b → About (b ∷ l) m
+    struck-about : (l m : List (List ℕ)) (b : List ℕ) → About l m → is-others-filing f b ≡ true → Filed (list-now l) b → About (b ∷ l) m
     struck-about l m b r o (for-nobody κ v x w k u) = absurd (true≢false (sym (other-facility b o .0) ∙ k))
     struck-about l m b r o (for-facility κ₀ v x w k) = λ κ h. x .keeps l κ (foreign (facility-of b) κ κ₀ (other-facility b o .1) h w) ∙ r κ h
     struck-about l m b r o (nothing-filed x k) = absurd (true≢false (sym (other-facility b o .0) ∙ k))
 
-    kept-about : (l m : List (List ℕ)) (b : List ℕ) → About l m → is-others-filing f b ≡ false → eqb (list-number F S limits l b) 0 ≡ true → Filed b
+    kept-about : (l m : List (List ℕ)) (b : List ℕ) → About l m → is-others-filing f b ≡ false → eqb (list-number F S limits l b) 0 ≡ true → Filed (list-now l) b
         → About (b ∷ l) (list-after F S limits m b)
     kept-about l m b r o a (for-nobody κ₀ v x w k u) =
         rw (accepted-list m b (ap (λ (n : ℕ). eqb n 0) (sym (numbers l m b r (λ t. absurd (true≢false (sym t ∙ u))))) ∙ a)) (both b κ₀ v l m x r)

@@ -7,9 +7,10 @@ use lib.Dec.{eqb}
 use lib.IntN.{ℤ, pos}
 use Rattle.offer_rules.specs.Numbers.{eqZ, toNat, word}
 use Rattle.offer_rules.specs.Time.{slot-of}
+use Rattle.offer_rules.specs.Offer.{Held, accepted-at}
 use Rattle.offer_rules.specs.Gate.{Window}
 use Rattle.book_rules.specs.Record.{call-of, facility-of, service-of, period-word, reason-of, word-A, word-B, capability-in, offer-in}
-use Rattle.book_rules.specs.Words.{part, put, clock-place, notice-place, limits-place, facility-place, outage-place, cell-place, standing-half, variation-half, cell, cell-stamp, cell-offer, holding, standing-stamp, variation-stamp, is-book}
+use Rattle.book_rules.specs.Words.{part, put, clock-place, notice-place, limits-place, facility-place, outage-place, cell-place, standing-half, variation-half, cell, cell-stamp, cell-held, holding, standing-stamp, variation-stamp, is-book}
 use Rattle.book_rules.specs.Force.{View, empty-window, outage-window, variation-made, Answer, plain}
 use Rattle.book_rules.specs.Refusals.{answer, after}
 
@@ -24,9 +25,12 @@ services-in w = toNat (word w 3)
 unfoldable pub window-in : List ℤ → Window
 window-in l = record { first = word l 0; last = word l 1 }
 
--- The offer that a cell holds under a stamp.
-unfoldable pub held : ℕ → List ℤ → Option (List ℤ)
-held stamp c = cond (eqZ (cell-stamp c) (pos stamp)) (some (cell-offer c)) none
+abbrev pub now-in : List ℤ → ℕ
+now-in w = toNat (word w clock-place)
+
+-- What a cell holds under a stamp.
+unfoldable pub held : ℕ → List ℤ → Option Held
+held stamp c = cond (eqZ (cell-stamp c) (pos stamp)) (some (cell-held c)) none
 
 -- A cell's 24 words in a book of these sizes.
 abbrev pub cell-in : List ℤ → ℕ → ℕ → ℕ → ℕ → List ℤ
@@ -37,7 +41,7 @@ book-view w = record {
   facilities = facilities-in w;
   services = services-in w;
   limits = part limits-place 6 w;
-  now = toNat (word w clock-place);
+  now = now-in w;
   capability = λ f. part (facility-place f) 17 w;
   outage = λ f. window-in (part (outage-place f) 2 w);
   notice = λ k. window-in (part (notice-place k) 2 w);
@@ -51,12 +55,13 @@ book-view w = record {
 unfoldable pub write-cell : List ℤ → ℕ → ℕ → ℕ → ℕ → List ℤ → List ℤ
 write-cell w f s h k c = put w (cell-place (facilities-in w) (services-in w) f s h k) c
 
+-- "Each cell keeps the minute of its acceptance" (document 02).
 abbrev pub file-standing : List ℤ → ℕ → ℕ → ℕ → List ℤ → List ℤ
-file-standing w f s k o = write-cell w f s standing-half k (cell standing-stamp o)
+file-standing w f s k o = write-cell w f s standing-half k (cell standing-stamp (accepted-at (now-in w) o))
 
 -- Where its pairs are all blank a variation leaves nothing to hold.
 abbrev pub file-variation : List ℤ → ℕ → ℕ → ℕ → List ℤ → List ℤ
-file-variation w f s p o = write-cell w f s variation-half (slot-of p) (holding (variation-stamp p) (variation-made o))
+file-variation w f s p o = write-cell w f s variation-half (slot-of p) (holding (variation-stamp p) (variation-made (now-in w) o))
 
 abbrev pub words-of : Window → List ℤ
 words-of v = v .first ∷ (v .last ∷ [])

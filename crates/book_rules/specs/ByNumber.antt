@@ -9,7 +9,7 @@ use lib.IntN.{ℤ}
 use lib.ListN.{getD}
 use Rattle.offer_rules.specs.Numbers.{toNat}
 use Rattle.offer_rules.specs.Time.{slot-refused, period-refused}
-use Rattle.offer_rules.specs.Offer.{Pair, pairs, sum-of, any-pair, out-of-range, is-priced-blank, non-blank-prices, rises, ramp-refused, proportion-refused, above-capacity}
+use Rattle.offer_rules.specs.Offer.{Pair, pairs, Held, sum-of, any-pair, out-of-range, is-priced-blank, non-blank-prices, rises, ramp-refused, proportion-refused, above-capacity}
 use Rattle.offer_rules.specs.Gate.{gate-refuses, standing-gate-refuses}
 use Rattle.book_rules.specs.Record.{call-of, facility-of, service-of, period-word, reason-of, word-A, word-B, capability-in, offer-in, is-record, outside, has-stray}
 use Rattle.book_rules.specs.Words.{is-book}
@@ -24,9 +24,9 @@ abbrev pub is-offer : List ℕ → Bool
 is-offer b = is-call 3 b || is-call 4 b
 
 -- A test of the held standing offer, where there is one.
-unfoldable pub of-held : (List ℤ → Bool) → Option (List ℤ) → Bool
+unfoldable pub of-held : (Held → Bool) → Option Held → Bool
 of-held test none = false
-of-held test (some o) = test o
+of-held test (some h) = test h
 
 module _ (vw : View) (b : List ℕ) where
   abbrev pub own-capability : List ℤ
@@ -46,7 +46,7 @@ module _ (vw : View) (b : List ℕ) where
   abbrev pub own-afterwards : InForce
   own-afterwards = will-stand vw (facility-of b) (service-of b) (toNat (period-word b)) (offer-in b)
 
-  abbrev pub own-held : Option (List ℤ)
+  abbrev pub own-held : Option Held
   own-held = vw .standing (facility-of b) (service-of b) (toNat (period-word b))
 
   -- 5 to 19.
@@ -75,8 +75,8 @@ module _ (vw : View) (b : List ℕ) where
       -- 17 "gate"
       ∷ (((is-call 3 b && of-held (λ _. standing-gate-refuses (vw .now) (toNat (period-word b))) own-held)
       || (is-call 4 b && gate-refuses (vw .now) (grounds vw (facility-of b)) (service-of b) (toNat (period-word b)) (reason-of b) (pairs-of own-force) (pairs-of own-afterwards)))
-      -- 18 "standing offer equal to the held one in cell words 1–23"
-      ∷ ((is-call 3 b && of-held (λ held. equal-words held (offer-in b)) own-held)
+      -- 18 "standing offer equal to the held one", whatever its minute
+      ∷ ((is-call 3 b && of-held (λ h. equal-words (h .offer) (offer-in b)) own-held)
       -- 19 "nothing in force (call 8)"
       ∷ ((is-call 8 b && eqb (counted own-force) 0)
       ∷ []))))))))))))))

@@ -3,17 +3,19 @@ use mathlib.Core.Path.{_≡_}
 use mathlib.Core.Logic.{_↔_}
 use mathlib.Core.Bool.{Bool, true, false, cond, not, _&&_}
 use mathlib.Core.List.{List, [], _∷_}
+use mathlib.Core.Option.{Option, none, some}
 use Prim.Native.Nat.{ℕ, _<_}
 use lib.Dec.{eqb}
-use lib.IntN.{ℤ}
-use lib.ListN.{length}
+use lib.IntN.{ℤ, pos}
+use lib.ListN.{length, drop}
 use Rattle.offer_rules.specs.Numbers.{toNat, between}
+use Rattle.offer_rules.specs.Offer.{pairs, Held, all-blank}
 use Rattle.offer_rules.specs.Gate.{gate-refuses}
-use Rattle.book_rules.specs.Record.{call-of, facility-of, service-of, period-word, reason-of, record-number}
+use Rattle.book_rules.specs.Record.{call-of, facility-of, service-of, period-word, reason-of, offer-in, record-number}
 use Rattle.book_rules.specs.Words.{is-book, opening-number, opening-words}
-use Rattle.book_rules.specs.Force.{InForce, in-force, pairs-of, Answer, plain}
-use Rattle.book_rules.specs.Refusals.{grounds}
-use Rattle.book_rules.specs.Book.{facilities-in, services-in, book-view, book-accept, book-answer, book-after, book-answers, book-run}
+use Rattle.book_rules.specs.Force.{View, InForce, in-force, pairs-of, Answer, plain}
+use Rattle.book_rules.specs.Refusals.{grounds, judge, reply}
+use Rattle.book_rules.specs.Book.{facilities-in, services-in, now-in, book-view, book-accept, book-answer, book-after, book-answers, book-run}
 use Rattle.book_rules.specs.ByNumber.{applies}
 use Rattle.book_rules.specs.ListMachine.{list-answers}
 
@@ -49,6 +51,43 @@ StandsAfterwards = (w : List ℤ) (b : List ℕ) → is-book w ≡ true → reco
     → applies w b 17
     ≡ gate-refuses (book-view w .now) (grounds (book-view w) (facility-of b)) (service-of b) (toNat (period-word b)) (reason-of b)
     (pairs-of (force-for w b)) (pairs-of (force-for (book-accept w b) b))
+
+-- ---- document 02: the minute of acceptance
+
+-- What a record files at the words' clock.
+abbrev pub filed-offer : List ℤ → List ℕ → Held
+filed-offer w b = record { offer = offer-in b; minute = pos (now-in w) }
+
+-- An accepted offer is shown as it was filed, with "the minute of its acceptance", the clock's: on every words, of whatever maxima.
+-- Of a variation of blanks nothing is held.
+unfoldable pub HeldAsFiled : Type 0
+HeldAsFiled = (w : List ℤ) (b : List ℕ) → is-accepted w b ≡ true
+    → (call-of b ≡ 3 → book-view (book-after w b) .standing (facility-of b) (service-of b) (toNat (period-word b)) ≡ some (filed-offer w b))
+    × (call-of b ≡ 4 → book-view (book-after w b) .variation (facility-of b) (service-of b) (toNat (period-word b)) ≡ cond (all-blank (pairs (offer-in b))) none (some (filed-offer w b)))
+
+-- What a view shows, with every held minute 0.
+unfoldable pub minute-less : Option Held → Option Held
+minute-less none = none
+minute-less (some h) = some (record { offer = h .offer; minute = pos 0 })
+
+abbrev pub ageless : View → View
+ageless vw = record {
+  facilities = vw .facilities;
+  services = vw .services;
+  limits = vw .limits;
+  now = vw .now;
+  capability = vw .capability;
+  outage = vw .outage;
+  notice = vw .notice;
+  standing = λ f s k. minute-less (vw .standing f s k);
+  variation = λ f s p. minute-less (vw .variation f s p);
+}
+
+-- A minute shows in a look-up's word 0 and nowhere else: it decides no number, no sum and no other word.
+unfoldable pub MinutesShowInWord0 : Type 0
+MinutesShowInWord0 = (vw : View) (b : List ℕ)
+    → (judge (ageless vw) b ≡ judge vw b) × (reply (ageless vw) b .sum ≡ reply vw b .sum) × (drop 1 (reply (ageless vw) b .words) ≡ drop 1 (reply vw b .words))
+    × (eqb (call-of b) 8 ≡ false → reply (ageless vw) b ≡ reply vw b)
 
 -- ---- demand 3: every list of calls
 -- Premise: each call is lent the words that the call before left, the first those that an accepted opening left.

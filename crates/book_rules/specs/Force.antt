@@ -5,11 +5,11 @@ use mathlib.Core.Option.{Option, none, some}
 use Prim.Native.Nat.{ℕ, zero, suc, _+_, _/_}
 use lib.IntN.{ℤ, pos, _+ℤ_}
 use Rattle.offer_rules.specs.Numbers.{zeros}
-use Rattle.offer_rules.specs.Time.{slot-of}
-use Rattle.offer_rules.specs.Offer.{Pair, pairs, all-blank, sum-of}
+use Rattle.offer_rules.specs.Time.{slot-of, is-fresh}
+use Rattle.offer_rules.specs.Offer.{Pair, pairs, Held, accepted-at, all-blank, sum-of}
 use Rattle.offer_rules.specs.Gate.{Window}
 
--- What the rules read of a state, whether a book's words or a list of accepted calls; an offer is its words 1 to 23.
+-- What the rules read of a state, whether a book's words or a list of accepted calls.
 pub record View : Type 0 where
   pub facilities : ℕ
   pub services : ℕ
@@ -18,8 +18,8 @@ pub record View : Type 0 where
   pub capability : ℕ → List ℤ
   pub outage : ℕ → Window
   pub notice : ℕ → Window
-  pub standing : ℕ → ℕ → ℕ → Option (List ℤ)
-  pub variation : ℕ → ℕ → ℕ → Option (List ℤ)
+  pub standing : ℕ → ℕ → ℕ → Option Held
+  pub variation : ℕ → ℕ → ℕ → Option Held
 
 -- "all windows 1 to 0 (empty)"
 abbrev pub empty-window : Window
@@ -31,13 +31,13 @@ outage-window m n = record { first = pos (m / 30 + 1); last = pos (m / 30 + n) }
 
 pub data InForce : Type 0 where
   no-offer : InForce
-  standing-offer : List ℤ → InForce
-  offer-variation : List ℤ → InForce
+  standing-offer : Held → InForce
+  offer-variation : Held → InForce
 
 -- "the variation cell if its stamp is P + 1, else the standing cell if its stamp is 1, else none"
-unfoldable pub first-of : Option (List ℤ) → Option (List ℤ) → InForce
-first-of (some o) standing = offer-variation o
-first-of none (some o) = standing-offer o
+unfoldable pub first-of : Option Held → Option Held → InForce
+first-of (some h) standing = offer-variation h
+first-of none (some h) = standing-offer h
 first-of none none = no-offer
 
 -- "For (f, s, P)"
@@ -45,18 +45,18 @@ unfoldable pub in-force : View → ℕ → ℕ → ℕ → InForce
 in-force vw f s p = first-of (vw .variation f s p) (vw .standing f s (slot-of p))
 
 -- Document 02, "Taking a variation back": "An accepted variation whose pairs are all blank .. means: no variation."
-unfoldable pub variation-made : List ℤ → Option (List ℤ)
-variation-made o = cond (all-blank (pairs o)) none (some o)
+unfoldable pub variation-made : ℕ → List ℤ → Option Held
+variation-made now o = cond (all-blank (pairs o)) none (some (accepted-at now o))
 
 -- "the offer that will stand afterwards" for (f, s, P), once a variation that carries o is filed (Claims, StandsAfterwards)
 unfoldable pub will-stand : View → ℕ → ℕ → ℕ → List ℤ → InForce
-will-stand vw f s p o = first-of (variation-made o) (vw .standing f s (slot-of p))
+will-stand vw f s p o = first-of (variation-made (vw .now) o) (vw .standing f s (slot-of p))
 
 -- "none has total 0"
 unfoldable pub pairs-of : InForce → List Pair
 pairs-of no-offer = []
-pairs-of (standing-offer o) = pairs o
-pairs-of (offer-variation o) = pairs o
+pairs-of (standing-offer h) = pairs (h .offer)
+pairs-of (offer-variation h) = pairs (h .offer)
 
 -- "sum: its ten quantities added"
 abbrev pub offered : InForce → ℤ
@@ -64,8 +64,8 @@ offered x = sum-of (pairs-of x)
 
 unfoldable pub counted : InForce → ℕ
 counted no-offer = 0
-counted (standing-offer o) = 1
-counted (offer-variation o) = 1
+counted (standing-offer h) = 1
+counted (offer-variation h) = 1
 
 -- The first n facilities' offers in force: how many there are, and their sum.
 unfoldable pub count-in-force : View → ℕ → ℕ → ℕ → ℕ
@@ -86,14 +86,18 @@ pub record Answer : Type 0 where
 unfoldable pub plain : ℕ → Answer
 plain n = record { number = n; words = zeros 24; sum = pos 0 }
 
--- "Look-up: word 0 is 1 (standing) or 2 (variation), then cell words 1–23"
-unfoldable pub found-words : InForce → List ℤ
-found-words no-offer = zeros 24
-found-words (standing-offer o) = pos 1 ∷ o
-found-words (offer-variation o) = pos 2 ∷ o
+-- Word 0, fresh or not, and the offer's words: "Look-up words 2 and 3 are the ramps" (document 02).
+unfoldable pub shown-at : ℕ → ℤ → ℤ → Held → List ℤ
+shown-at now fresh settled h = cond (is-fresh now (h .minute)) fresh settled ∷ h .offer
 
-unfoldable pub found : InForce → Answer
-found x = record { number = 0; words = found-words x; sum = offered x }
+-- "Look-up: word 0 is 1 (standing) or 2 (variation)"; it is "3 for standing and 4 for variation while now minus that minute is below 5" (document 02).
+unfoldable pub found-words : ℕ → InForce → List ℤ
+found-words now no-offer = zeros 24
+found-words now (standing-offer h) = shown-at now (pos 3) (pos 1) h
+found-words now (offer-variation h) = shown-at now (pos 4) (pos 2) h
+
+unfoldable pub found : ℕ → InForce → Answer
+found now x = record { number = 0; words = found-words now x; sum = offered x }
 
 -- "Total: word 0 counts facilities with an offer in force, other words zero; sum over them."
 unfoldable pub totalled : ℕ → ℤ → Answer

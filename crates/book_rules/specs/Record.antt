@@ -49,7 +49,7 @@ word-B b = word-at b 28
 unfoldable pub capability-in : List ℕ → List ℤ
 capability-in b = words-at b 32 17
 
--- "An offer's words 1–23 are what its call carried: proportion, ramps, pairs, else zero." Where a record passes refusal 4, what its service doesn't use is zero.
+-- "An offer's words 1–23 are what its call carried: proportion, ramps, pairs, else zero", as a look-up shows them. Where a record passes refusal 4, what its service doesn't use is zero.
 unfoldable pub offer-in : List ℕ → List ℤ
 offer-in b = pos (byte b 14 * 256 + byte b 15) ∷ (word-at b 16 ∷ (word-at b 20 ∷ words-at b 32 20))
 

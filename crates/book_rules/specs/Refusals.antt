@@ -10,7 +10,7 @@ use lib.Signed.{leZ}
 use Rattle.offer_rules.specs.Numbers.{eqZ, toNat, between, beyond, any-beyond, draw, _then_}
 use Rattle.offer_rules.specs.Time.{slot-refused, period-refused}
 use Rattle.offer_rules.specs.Kinds.{kind-row, is-kind, may-offer, may-be-marked}
-use Rattle.offer_rules.specs.Offer.{Pair, kind-of, mark-for, offer-number}
+use Rattle.offer_rules.specs.Offer.{Pair, Held, kind-of, mark-for, offer-number}
 use Rattle.offer_rules.specs.Gate.{Grounds, gate-refuses, standing-gate-refuses}
 use Rattle.book_rules.specs.Record.{call-of, facility-of, service-of, period-word, reason-of, word-A, word-B, capability-in, offer-in, record-number}
 use Rattle.book_rules.specs.Force.{View, InForce, in-force, will-stand, pairs-of, counted, count-in-force, sum-in-force, Answer, plain, found, totalled}
@@ -83,17 +83,21 @@ registration-refused c s = not (is-registered c s) || not (may-offer (kind-of c)
 unfoldable pub registration-number : List ℤ → ℕ → ℕ
 registration-number c s = draw (registration-refused c s) 9
 
--- 18 "standing offer equal to the held one in cell words 1–23"
+-- 18 "standing offer equal to the held one"; "The duplicate test ignores the minute" (document 02).
 unfoldable pub equal-words : List ℤ → List ℤ → Bool
 equal-words [] [] = true
 equal-words [] (y ∷ m) = false
 equal-words (x ∷ l) [] = false
 equal-words (x ∷ l) (y ∷ m) = eqZ x y && equal-words l m
 
--- 17 and 18 of a standing offer: "A first one always passes the gate."
-unfoldable pub revision-number : ℕ → ℕ → Option (List ℤ) → List ℤ → ℕ
+-- 17 and 18 of a standing offer over a held one, the same as it or not
+unfoldable pub over-held : ℕ → ℕ → Bool → ℕ
+over-held now k same = draw (standing-gate-refuses now k) 17 then draw same 18
+
+-- "A first one always passes the gate."
+unfoldable pub revision-number : ℕ → ℕ → Option Held → List ℤ → ℕ
 revision-number now k none o = 0
-revision-number now k (some held) o = draw (standing-gate-refuses now k) 17 then draw (equal-words held o) 18
+revision-number now k (some h) o = over-held now k (equal-words (h .offer) o)
 
 -- 17 of a variation
 unfoldable pub grounds : View → ℕ → Grounds
@@ -155,7 +159,7 @@ judge vw b =
 -- ---- what an accepted call answers
 
 unfoldable pub look-up-reply : View → ℕ → ℕ → ℕ → Answer
-look-up-reply vw f s p = found (in-force vw f s p)
+look-up-reply vw f s p = found (vw .now) (in-force vw f s p)
 
 unfoldable pub total-reply : View → ℕ → ℕ → Answer
 total-reply vw s p = totalled (count-in-force vw s p (vw .facilities)) (sum-in-force vw s p (vw .facilities))

@@ -4,11 +4,12 @@ use mathlib.Core.List.{List, [], _∷_, _++_}
 use mathlib.Core.Option.{Option, none, some}
 use Prim.Native.Nat.{ℕ, zero, suc, _+_, _*_, _-_}
 use lib.Dec.{leb, eqb}
-use lib.IntN.{ℤ, pos, negsuc}
-use lib.Signed.{leZ}
+use lib.IntN.{ℤ, pos, negsuc, _+ℤ_, _*ℤ_}
+use lib.Signed.{leZ, quotZ, remZ}
 use lib.ListN.{length, take, drop}
 use Rattle.offer_rules.specs.Numbers.{eqZ, toNat, word, zeros, beyond, any-beyond, draw}
 use Rattle.offer_rules.specs.Time.{slots}
+use Rattle.offer_rules.specs.Offer.{proportion, ramp-up, ramp-down, Held, most-ramp}
 use Rattle.book_rules.specs.Record.{sizes-ok}
 
 -- n words from a on.
@@ -23,13 +24,14 @@ put w a c = take a w ++ (c ++ drop (a + length c) w)
 unfoldable pub book-size : ℕ → ℕ → ℕ
 book-size F S = 64 + 32 * F + 16128 * (F * S)
 
--- "Head: 0 the mark 0x534F42; 1 version 1; 2 F; 3 S; 4 clock; 5–10 first and last of notices 3, 4, 5;
+-- "Head: 0 the mark 0x534F42; 1 version ..; 2 F; 3 S; 4 clock; 5–10 first and last of notices 3, 4, 5;
 -- 11, 12 lowest and highest energy price; 13–16 highest price of services 1 to 4; the rest to 63 zero."
 abbrev pub book-mark : ℤ
 book-mark = pos 0x534F42
 
+-- "The book's version, head word 1, becomes 2" (document 02).
 abbrev pub book-version : ℤ
-book-version = pos 1
+book-version = pos 2
 
 abbrev pub clock-place : ℕ
 clock-place = 4
@@ -57,21 +59,36 @@ standing-half = 0
 abbrev pub variation-half : ℕ
 variation-half = 1
 
--- A cell: "0 stamp (0 empty, 1 standing, P + 1 variation), 1 proportion, 2 ramp up, 3 ramp down, 4–23 pairs":
--- a stamp and an offer as a cell's words, and the stamp and the offer of a cell's words.
-unfoldable pub cell : ℕ → List ℤ → List ℤ
-cell stamp o = pos stamp ∷ o
+-- A cell: "0 stamp (0 empty, 1 standing, P + 1 variation), 1 proportion, .. 4–23 pairs";
+-- "word 2 becomes ramp up times 10,000 plus ramp down, word 3 the minute" of acceptance (document 02).
+abbrev pub ramp-unit : ℤ
+ramp-unit = pos 10000
 
+abbrev pub packed-ramps : ℤ → ℤ → ℤ
+packed-ramps up down = up *ℤ ramp-unit +ℤ down
+
+-- A stamp and a held offer as a cell's words.
+unfoldable pub cell : ℕ → Held → List ℤ
+cell stamp h = let o = h .offer in pos stamp ∷ (proportion o ∷ (packed-ramps (ramp-up o) (ramp-down o) ∷ (h .minute ∷ drop 3 o)))
+
+-- The stamp and the held offer of a cell's words. "On a damaged word 2 the ramps are quotient and remainder rounded toward zero" (document 02).
 abbrev pub cell-stamp : List ℤ → ℤ
 cell-stamp c = word c 0
 
-abbrev pub cell-offer : List ℤ → List ℤ
-cell-offer c = drop 1 c
+unfoldable pub cell-held : List ℤ → Held
+cell-held c = record {
+  offer = word c 1 ∷ (quotZ (word c 2) ramp-unit ∷ (remZ (word c 2) ramp-unit ∷ drop 4 c));
+  minute = word c 3;
+}
+
+-- Ramps that come back from word 2 as they went in: refusals 4 and 14 leave no others (Claims, HeldAsFiled).
+abbrev pub ramps-fit : List ℤ → Bool
+ramps-fit o = not (any-beyond (pos 0) most-ramp o 1 2)
 
 -- A cell that holds an offer under a stamp; where there is none to hold, "Its cell becomes 24 zeros" (document 02).
-unfoldable pub holding : ℕ → Option (List ℤ) → List ℤ
+unfoldable pub holding : ℕ → Option Held → List ℤ
 holding stamp none = zeros 24
-holding stamp (some o) = cell stamp o
+holding stamp (some h) = cell stamp h
 
 abbrev pub standing-stamp : ℕ
 standing-stamp = 1

@@ -1,11 +1,11 @@
--- The cases marked (p), and those of a variation taken back and of a link, as one table with one statement.
+-- The cases marked (p), and those of a variation taken back, of a link and of a fresh offer, as one table with one statement.
 use mathlib.Core.Path.{_≡_}
 use mathlib.Core.List.{List, [], _∷_, _++_}
-use Prim.Native.Nat.{ℕ}
+use Prim.Native.Nat.{ℕ, _+_}
 use lib.IntN.{ℤ, pos, negsuc}
 use lib.ListN.{getD, replicate}
-use Rattle.offer_rules.specs.Numbers.{word}
-use Rattle.book_rules.specs.Words.{put, facility-place, opening-words}
+use Rattle.offer_rules.specs.Numbers.{word, zeros}
+use Rattle.book_rules.specs.Words.{part, put, facility-place, cell-place, standing-half, variation-half, standing-stamp, opening-words}
 use Rattle.book_rules.specs.Force.{Answer}
 use Rattle.book_rules.specs.Book.{book-answer, book-run}
 use Rattle.cases.specs.Records.{_at_, clock, capability-words, energy-mark, capability-of, capability, standing-for, standing, ramping, variation, outage, notice, look-up-for, look-up, total}
@@ -14,8 +14,8 @@ use Rattle.cases.specs.Records.{_at_, clock, capability-words, energy-ma
 abbrev pub limits : List ℤ
 limits = negsuc 449999 ∷ (pos 450000 ∷ (pos 450000 ∷ (pos 450000 ∷ (pos 450000 ∷ (pos 450000 ∷ [])))))
 
-abbrev pub fresh-book : List ℤ
-fresh-book = opening-words (replicate 16224 (pos 0)) (pos 1) (pos 1) limits
+abbrev pub opened-book : List ℤ
+opened-book = opening-words (replicate 16224 (pos 0)) (pos 1) (pos 1) limits
 
 -- The same for five services, of 80,736 words.
 abbrev pub wide-book : List ℤ
@@ -81,72 +81,121 @@ link = capability-of (capability-words 3 1300 800 energy-mark)
 abbrev damaged-link : List ℤ → List ℤ
 damaged-link w = put w (facility-place 0) (capability-words 3 1300 800 (replicate 5 (pos 1)) ++ (pos 0 ∷ (pos 99 ∷ [])))
 
--- Most rows start from the fresh book: the calls before, the last call, its answer.
-abbrev fresh : List (List ℕ) → List ℕ → Line → Case
-fresh calls call line = record { book = fresh-book; before = calls; last = call; answered = line }
+-- A standing cell of slot 4 with these words 2 and 3, as a host wrote them; a highest ramp up of 2,000.0 MW/min.
+abbrev damaged-cell : ℤ → ℤ → List ℤ
+damaged-cell ramps minute = put opened-book (cell-place 1 1 0 0 standing-half 4) (pos standing-stamp ∷ (pos 0 ∷ (ramps ∷ (minute ∷ []))))
+
+abbrev damaged-maximum : List ℤ
+damaged-maximum = put (book-run opened-book (plant ∷ [])) (facility-place 0 + 7) (pos 20000 ∷ [])
+
+-- Most rows start from the opened book: the calls before, the last call, its answer.
+abbrev row : List (List ℕ) → List ℕ → Line → Case
+row calls call line = record { book = opened-book; before = calls; last = call; answered = line }
 
 abbrev pub first-case : Case
-first-case = fresh (plant ∷ []) (standing 4 (1300 at 4000 ∷ [])) (draws 16)
+first-case = row (plant ∷ []) (standing 4 (1300 at 4000 ∷ [])) (draws 16)
 
 abbrev pub cases : List Case
 cases =
     -- "Totals 130.0 against 130.0 and 80.0: 16." "70.0: passes."
     first-case
-    ∷ fresh (plant ∷ []) (standing 4 (700 at 4000 ∷ [])) passes
+    ∷ row (plant ∷ []) (standing 4 (700 at 4000 ∷ [])) passes
     -- "Prices 50.00, 40.00: 13." "40.00, 50.00: passes."
-    ∷ fresh (plant ∷ []) (standing 4 (100 at 5000 ∷ (100 at 4000 ∷ []))) (draws 13)
-    ∷ fresh (plant ∷ []) (standing 4 (100 at 4000 ∷ (100 at 5000 ∷ []))) passes
+    ∷ row (plant ∷ []) (standing 4 (100 at 5000 ∷ (100 at 4000 ∷ []))) (draws 13)
+    ∷ row (plant ∷ []) (standing 4 (100 at 4000 ∷ (100 at 5000 ∷ []))) passes
     -- "50.0 at 100.00 then 0.0 at 0.00: passes." "0.0 at 50.00: 12.", alone and after another pair
-    ∷ fresh (plant ∷ []) (standing 4 (500 at 10000 ∷ (0 at 0 ∷ []))) passes
-    ∷ fresh (plant ∷ []) (standing 4 (0 at 5000 ∷ [])) (draws 12)
-    ∷ fresh (plant ∷ []) (standing 4 (500 at 4000 ∷ (0 at 5000 ∷ []))) (draws 12)
+    ∷ row (plant ∷ []) (standing 4 (500 at 10000 ∷ (0 at 0 ∷ []))) passes
+    ∷ row (plant ∷ []) (standing 4 (0 at 5000 ∷ [])) (draws 12)
+    ∷ row (plant ∷ []) (standing 4 (500 at 4000 ∷ (0 at 5000 ∷ []))) (draws 12)
     -- "now 55, P 4: 65 left, open." "now 56: 17 without reason." "now 120: 10."
-    ∷ fresh (plant ∷ (clock 55 ∷ [])) (variation 4 0 (300 at 4000 ∷ [])) passes
-    ∷ fresh (plant ∷ (clock 56 ∷ [])) (variation 4 0 (300 at 4000 ∷ [])) (draws 17)
-    ∷ fresh (plant ∷ (clock 120 ∷ [])) (variation 4 0 (300 at 4000 ∷ [])) (draws 10)
+    ∷ row (plant ∷ (clock 55 ∷ [])) (variation 4 0 (300 at 4000 ∷ [])) passes
+    ∷ row (plant ∷ (clock 56 ∷ [])) (variation 4 0 (300 at 4000 ∷ [])) (draws 17)
+    ∷ row (plant ∷ (clock 120 ∷ [])) (variation 4 0 (300 at 4000 ∷ [])) (draws 10)
     -- "second pair 30.0 passes; 45.0 and 30.0: 17, the 451st tenth differs."
-    ∷ fresh (shut-for plant) (variation 4 4 (500 at 4000 ∷ (300 at 5000 ∷ []))) passes
-    ∷ fresh (shut-for plant) (variation 4 4 (450 at 4000 ∷ (300 at 5000 ∷ []))) (draws 17)
+    ∷ row (shut-for plant) (variation 4 4 (500 at 4000 ∷ (300 at 5000 ∷ []))) passes
+    ∷ row (shut-for plant) (variation 4 4 (450 at 4000 ∷ (300 at 5000 ∷ []))) (draws 17)
     -- Taken back before closure: the look-up then answers the standing offer, and 19 where there is none.
-    ∷ fresh both (blank 0) passes
-    ∷ fresh (both ++ (blank 0 ∷ [])) (look-up 4) (reads 0 1 700)
-    ∷ fresh (varied ++ (blank 0 ∷ [])) (look-up 4) (draws 19)
+    ∷ row both (blank 0) passes
+    ∷ row (both ++ (blank 0 ∷ [])) (look-up 4) (reads 0 3 700)
+    ∷ row (varied ++ (blank 0 ∷ [])) (look-up 4) (draws 19)
     -- Inside the gate: with reason 2, the outage covering P and prices kept; without a reason 17.
-    ∷ fresh (both ++ tripped) (blank 2) passes
-    ∷ fresh (both ++ tripped) (blank 0) (draws 17)
-    ∷ fresh (both ++ (tripped ++ (blank 2 ∷ []))) (look-up 4) (reads 0 1 700)
-    ∷ fresh (varied ++ (tripped ++ (blank 2 ∷ []))) (look-up 4) (draws 19)
+    ∷ row (both ++ tripped) (blank 2) passes
+    ∷ row (both ++ tripped) (blank 0) (draws 17)
+    ∷ row (both ++ (tripped ++ (blank 2 ∷ []))) (look-up 4) (reads 0 1 700)
+    ∷ row (varied ++ (tripped ++ (blank 2 ∷ []))) (look-up 4) (draws 19)
     -- "blanks may stand anywhere": one blank pair before another is not all of them.
-    ∷ fresh (plant ∷ (stands ∷ (variation 4 0 (0 at 0 ∷ (300 at 4000 ∷ [])) ∷ []))) (look-up 4) (reads 0 2 300)
+    ∷ row (plant ∷ (stands ∷ (variation 4 0 (0 at 0 ∷ (300 at 4000 ∷ [])) ∷ []))) (look-up 4) (reads 0 4 300)
     -- What it is compared with is the standing offer: 30.0 at 45.00 against 40.00.
-    ∷ fresh ((plant ∷ (stands ∷ (variation 4 0 (300 at 4500 ∷ []) ∷ []))) ++ tripped) (blank 2) (draws 17)
+    ∷ row ((plant ∷ (stands ∷ (variation 4 0 (300 at 4500 ∷ []) ∷ []))) ++ tripped) (blank 2) (draws 17)
     -- "A blank standing offer still means zero MW": it is in force and counted.
-    ∷ fresh (plant ∷ (standing 4 [] ∷ [])) (look-up 4) (reads 0 1 0)
-    ∷ fresh (plant ∷ (standing 4 [] ∷ [])) (total 4) (reads 0 1 0)
+    ∷ row (plant ∷ (standing 4 [] ∷ [])) (look-up 4) (reads 0 3 0)
+    ∷ row (plant ∷ (standing 4 [] ∷ [])) (total 4) (reads 0 1 0)
     -- A link: "Its capability record may have mark 0 only, else 8"
-    ∷ fresh [] link passes
-    ∷ fresh [] (capability-of (capability-words 3 1300 800 (replicate 4 (pos 0) ++ (pos 1 ∷ [])))) (draws 8)
+    ∷ row [] link passes
+    ∷ row [] (capability-of (capability-words 3 1300 800 (replicate 4 (pos 0) ++ (pos 1 ∷ [])))) (draws 8)
     -- "unlike a held 1 or 2", or 3
-    ∷ fresh (link ∷ []) plant (draws 8)
-    ∷ fresh (plant ∷ []) link (draws 8)
+    ∷ row (link ∷ []) plant (draws 8)
+    ∷ row (plant ∷ []) link (draws 8)
     -- "An outage call for it is refused with 7"
-    ∷ fresh (link ∷ (clock 56 ∷ [])) (outage 56 3) (draws 7)
+    ∷ row (link ∷ (clock 56 ∷ [])) (outage 56 3) (draws 7)
     -- "Reasons 3, 4 and 5 are open to it; 1, 2 and 6 are not": 2 and 6 are shut to it also where a damaged book has an outage over P
-    ∷ fresh (shut-for link) (variation 4 4 (500 at 4000 ∷ (300 at 5000 ∷ []))) passes
-    ∷ fresh (shut-for link) (variation 4 1 (500 at 4000 ∷ (300 at 5000 ∷ []))) (draws 17)
-    ∷ fresh (shut-for link) (variation 4 2 (500 at 4000 ∷ (300 at 5000 ∷ []))) (draws 17)
-    ∷ record { book = damaged-link fresh-book; before = clock 56 ∷ []; last = variation 4 2 (300 at 4000 ∷ []); answered = draws 17 }
-    ∷ record { book = damaged-link fresh-book; before = clock 56 ∷ []; last = variation 4 6 (300 at 4000 ∷ []); answered = draws 17 }
+    ∷ row (shut-for link) (variation 4 4 (500 at 4000 ∷ (300 at 5000 ∷ []))) passes
+    ∷ row (shut-for link) (variation 4 1 (500 at 4000 ∷ (300 at 5000 ∷ []))) (draws 17)
+    ∷ row (shut-for link) (variation 4 2 (500 at 4000 ∷ (300 at 5000 ∷ []))) (draws 17)
+    ∷ record { book = damaged-link opened-book; before = clock 56 ∷ []; last = variation 4 2 (300 at 4000 ∷ []); answered = draws 17 }
+    ∷ record { book = damaged-link opened-book; before = clock 56 ∷ []; last = variation 4 6 (300 at 4000 ∷ []); answered = draws 17 }
     -- "It offers energy only: refusal 9 also covers its offers for services 1 to 4", where a damaged book has the mark too; a look-up draws 19
-    ∷ fresh (link ∷ (stands ∷ [])) (look-up 4) (reads 0 1 700)
+    ∷ row (link ∷ (stands ∷ [])) (look-up 4) (reads 0 3 700)
     ∷ record { book = wide-book; before = link ∷ []; last = standing-for 1 4 (100 at 4000 ∷ []); answered = draws 9 }
     ∷ record { book = damaged-link wide-book; before = []; last = standing-for 1 4 (100 at 4000 ∷ []); answered = draws 9 }
     ∷ record { book = wide-book; before = link ∷ []; last = look-up-for 1 4; answered = draws 19 }
     -- Ramps bind its energy, here against 0.0 MW/min, and both maxima: 130.0 against 130.0 and 80.0.
-    ∷ fresh (link ∷ []) (ramping 1 (standing 4 (700 at 4000 ∷ []))) (draws 14)
-    ∷ fresh (link ∷ []) (standing 4 (1300 at 4000 ∷ [])) (draws 16)
+    ∷ row (link ∷ []) (ramping 1 (standing 4 (700 at 4000 ∷ []))) (draws 14)
+    ∷ row (link ∷ []) (standing 4 (1300 at 4000 ∷ [])) (draws 16)
+    -- "3 for standing and 4 for variation while now minus that minute is below 5": 4 minutes after acceptance, and 5
+    ∷ row (plant ∷ (clock 10 ∷ (stands ∷ (clock 14 ∷ [])))) (look-up 4) (reads 0 3 700)
+    ∷ row (plant ∷ (clock 10 ∷ (stands ∷ (clock 15 ∷ [])))) (look-up 4) (reads 0 1 700)
+    ∷ row (both ++ (clock 4 ∷ [])) (look-up 4) (reads 0 4 300)
+    ∷ row (both ++ (clock 5 ∷ [])) (look-up 4) (reads 0 2 300)
+    -- The minute is whole, not the day's.
+    ∷ row (plant ∷ (clock 1445 ∷ (stands ∷ (clock 1449 ∷ [])))) (look-up 340) (reads 0 3 700)
+    -- By the offer in force alone, whichever was accepted later.
+    ∷ row (plant ∷ (stands ∷ (clock 5 ∷ (variation 4 0 (300 at 4000 ∷ []) ∷ [])))) (look-up 4) (reads 0 4 300)
+    ∷ row (varied ++ (clock 5 ∷ (stands ∷ []))) (look-up 4) (reads 0 2 300)
+    -- A variation filed again is fresh again; a standing offer draws 18, whatever its minute, and 18 leaves the minute.
+    ∷ row (varied ++ (clock 5 ∷ varied)) (look-up 4) (reads 0 4 300)
+    ∷ row (plant ∷ (stands ∷ (clock 5 ∷ []))) stands (draws 18)
+    ∷ row (plant ∷ (stands ∷ (clock 5 ∷ (stands ∷ [])))) (look-up 4) (reads 0 1 700)
+    -- After a take-back the standing offer's own minute counts.
+    ∷ row (plant ∷ (stands ∷ (clock 5 ∷ (variation 4 0 (300 at 4000 ∷ []) ∷ (blank 0 ∷ []))))) (look-up 4) (reads 0 1 700)
+    -- A damaged minute later than now is below 5, and one far before it isn't.
+    ∷ record { book = damaged-cell (pos 0) (pos 1000); before = plant ∷ []; last = look-up 4; answered = reads 0 3 0 }
+    ∷ record { book = damaged-cell (pos 0) (negsuc 2147483647); before = plant ∷ []; last = look-up 4; answered = reads 0 1 0 }
+    -- 14 "also covers a ramp above 9,999", where only a damaged maximum lets one come
+    ∷ record { book = damaged-maximum; before = []; last = ramping 9999 stands; answered = passes }
+    ∷ record { book = damaged-maximum; before = []; last = ramping 10000 stands; answered = draws 14 }
+    -- Another ramp is no duplicate; the same ramp is.
+    ∷ record { book = damaged-maximum; before = stands ∷ []; last = ramping 7 stands; answered = passes }
+    ∷ record { book = damaged-maximum; before = ramping 7 stands ∷ []; last = ramping 7 stands; answered = draws 18 }
+    -- "The book's version, head word 1, becomes 2": a book of version 1 is refused.
+    ∷ record { book = put opened-book 1 (pos 1 ∷ []); before = []; last = plant; answered = draws 1 }
+    ∷ record { book = put opened-book 1 (pos 2 ∷ []); before = []; last = plant; answered = passes }
+    ∷ record { book = put opened-book 1 (pos 3 ∷ []); before = []; last = plant; answered = draws 1 }
     ∷ []
 
 -- Every row of the table holds.
 unfoldable pub EveryCase : Type 0
 EveryCase = (i : ℕ) → answer-in (getD cases i first-case) ≡ getD cases i first-case .answered
+
+-- Words 2 and 3 of a look-up of period 4: as they were filed, and "quotient and remainder rounded toward zero" of −12,345.
+abbrev ramps-shown : List ℤ → List (List ℕ) → List ℤ
+ramps-shown w before = part 2 2 (book-answer (book-run w before) (look-up 4) .words)
+
+unfoldable pub RampsShown : Type 0
+RampsShown = (ramps-shown damaged-maximum (ramping 7 stands ∷ []) ≡ pos 7 ∷ (pos 0 ∷ []))
+    × (ramps-shown (damaged-cell (negsuc 12344) (pos 0)) (plant ∷ []) ≡ negsuc 0 ∷ (negsuc 2344 ∷ []))
+
+-- A filed cell's first words, and "24 zeros" once a variation is taken back.
+unfoldable pub CellWords : Type 0
+CellWords = (part (cell-place 1 1 0 0 standing-half 4) 4 (book-run damaged-maximum (clock 10 ∷ (ramping 7 stands ∷ []))) ≡ pos 1 ∷ (pos 0 ∷ (pos 70000 ∷ (pos 10 ∷ []))))
+    × (part (cell-place 1 1 0 0 variation-half 4) 24 (book-run opened-book (clock 10 ∷ (both ++ (blank 0 ∷ [])))) ≡ zeros 24)

@@ -11,21 +11,22 @@ use lib.ListN.{length, take, drop, length-drop}
 use lib.Seq.{drop-drop, take-all}
 use Rattle.offer_rules.specs.Numbers.{eqZ, word}
 use Rattle.offer_rules.specs.Time.{slot-of}
-use Rattle.book_rules.specs.Words.{part, cell-place, standing-half, variation-half, standing-stamp, variation-stamp}
+use Rattle.offer_rules.specs.Offer.{Held}
+use Rattle.book_rules.specs.Words.{part, cell-place, cell-held, standing-half, variation-half, standing-stamp, variation-stamp}
 use Rattle.book_rules.specs.Force.{no-offer, standing-offer, offer-variation, first-of}
 use Rattle.book_rules.specs.Book.{facilities-in, services-in, held, book-view}
 use Rattle.book_rules.proofs.Parts.{word-of-part}
 use Rattle.cells.specs.declared.InForce as place
 use Rattle.cells.specs.declared.InForce.the-variants.{Standing, Variation}
-use Rattle.cells.specs.Meaning.{Sized, offer-at, end-of}
+use Rattle.cells.specs.Meaning.{Sized, held-at, offer-at, end-of}
 
--- The offer at a place, where the word there is the stamp.
-abbrev pub stamped-at : ℕ → List ℤ → ℕ → Option (List ℤ)
-stamped-at stamp w at = cond (eqZ (word w at) (pos stamp)) (some (offer-at w at)) none
+-- What a place holds, where the word there is the stamp.
+abbrev pub stamped-at : ℕ → List ℤ → ℕ → Option Held
+stamped-at stamp w at = cond (eqZ (word w at) (pos stamp)) (some (held-at w at)) none
 
-held-at : (stamp : ℕ) (w : List ℤ) (at : ℕ) → held stamp (part at 24 w) ≡ stamped-at stamp w at
-unfolding held offer-at
-held-at stamp w at =
+held-there : (stamp : ℕ) (w : List ℤ) (at : ℕ) → held stamp (part at 24 w) ≡ stamped-at stamp w at
+unfolding held held-at
+held-there stamp w at =
     let e : word (part at 24 w) 0 ≡ word w at = word-of-part at 24 0 w (omega arith) ∙ ap (word w) (add-zero at) in
     rw e
 
@@ -35,12 +36,12 @@ module _ (w : List ℤ) (F S f s : ℕ) (z : Sized w F S) where
 
   pub standing-held : (k at : ℕ) → at ≡ cell-place F S f s standing-half k → book-view w .standing f s k ≡ stamped-at standing-stamp w at
   unfolding book-view
-  standing-held k at e = ap (λ (a : ℕ). held standing-stamp (part a 24 w)) (place-is standing-half k at e) ∙ held-at standing-stamp w at
+  standing-held k at e = ap (λ (a : ℕ). held standing-stamp (part a 24 w)) (place-is standing-half k at e) ∙ held-there standing-stamp w at
 
   pub variation-held : (p at : ℕ) → at ≡ cell-place F S f s variation-half (slot-of p) → book-view w .variation f s p ≡ stamped-at (variation-stamp p) w at
   unfolding book-view
   variation-held p at e =
-      ap (λ (a : ℕ). held (variation-stamp p) (part a 24 w)) (place-is variation-half (slot-of p) at e) ∙ held-at (variation-stamp p) w at
+      ap (λ (a : ℕ). held (variation-stamp p) (part a 24 w)) (place-is variation-half (slot-of p) at e) ∙ held-there (variation-stamp p) w at
 
 -- A cell that a case names lies in the words.
 pub standing-inside : (x : place.InForce) (at n : ℕ) → x ≡ Standing at → end-of x ≤ n → at + 24 ≤ n
@@ -52,41 +53,37 @@ unfolding end-of
 variation-inside x at n e h = rw e at h
 
 -- What a standing cell holds, from the offer that is in force where there is no variation.
-pub no-standing : (o : Option (List ℤ)) → no-offer ≡ first-of none o → o ≡ none
+pub no-standing : (o : Option Held) → no-offer ≡ first-of none o → o ≡ none
 unfolding first-of
 no-standing none e = refl
 no-standing (some x) e = let z : _≡_ {A = ℕ} 0 1 = cc e in absurd (omega arith)
 
-pub a-standing : (o : Option (List ℤ)) (l : List ℤ) → standing-offer l ≡ first-of none o → o ≡ some l
+pub a-standing : (o : Option Held) (h : Held) → standing-offer h ≡ first-of none o → o ≡ some h
 unfolding first-of
-a-standing none l e = let z : _≡_ {A = ℕ} 0 1 = cc e in absurd (omega arith)
-a-standing (some x) l e = let h : x ≡ l = cc e in ap some h
+a-standing none h e = let z : _≡_ {A = ℕ} 0 1 = cc e in absurd (omega arith)
+a-standing (some x) h e = let q : x ≡ h = cc e in ap some q
 
-pub never-a-variation : (o : Option (List ℤ)) (l : List ℤ) → offer-variation l ≡ first-of none o → ⊥
+pub never-a-variation : (o : Option Held) (h : Held) → offer-variation h ≡ first-of none o → ⊥
 unfolding first-of
-never-a-variation none l e = let z : _≡_ {A = ℕ} 0 1 = cc e in omega arith
-never-a-variation (some x) l e = let z : _≡_ {A = ℕ} 0 1 = cc e in omega arith
+never-a-variation none h e = let z : _≡_ {A = ℕ} 0 1 = cc e in omega arith
+never-a-variation (some x) h e = let z : _≡_ {A = ℕ} 0 1 = cc e in omega arith
 
 -- ---- a cell's offer
 
--- As it is lent.
-pub offer-lent : (at : ℕ) (w : List ℤ) → take (at + 24 - (at + 1)) (drop (at + 1) w) ≡ offer-at w at
-unfolding offer-at part
-offer-lent at w =
-    let k : at + 24 - (at + 1) ≡ 23 = omega arith in
-    ap (λ (n : ℕ). take n (drop (at + 1) w)) k ∙ ap (take 23) (sym (drop-drop 1 at w)) ∙ sym (past-one (drop at w))
+-- The words of its pairs, as they are lent.
+pub pairs-lent : (at : ℕ) (w : List ℤ) → take (at + 24 - (at + 4)) (drop (at + 4) w) ≡ drop 3 (offer-at w at)
+unfolding held-at cell-held part
+pairs-lent at w =
+    let k : at + 24 - (at + 4) ≡ 20 = omega arith in
+    ap (λ (n : ℕ). take n (drop (at + 4) w)) k ∙ ap (take 20) (sym (drop-drop 4 at w)) ∙ sym (past-four (drop at w))
   where
-    past-one : (l : List ℤ) → drop 1 (take 24 l) ≡ take 23 (drop 1 l)
-    past-one [] = refl
-    past-one (a ∷ l) = refl
+    past-four : (l : List ℤ) → drop 4 (take 24 l) ≡ take 20 (drop 4 l)
+    past-four [] = refl
+    past-four (a ∷ []) = refl
+    past-four (a ∷ (b ∷ [])) = refl
+    past-four (a ∷ (b ∷ (c ∷ []))) = refl
+    past-four (a ∷ (b ∷ (c ∷ (d ∷ l)))) = refl
 
--- The words after its first three are those of its pairs.
+-- The words after an offer's first three are those of its pairs, as they are lent.
 pub tail-lent : (l : List ℤ) (n : ℕ) → length l ≡ n → take (n - 3) (drop 3 l) ≡ drop 3 l
 tail-lent l n h = take-all (n - 3) (drop 3 l) (simp length-drop (omega arith))
-
--- Its first three words, then those of its pairs.
-pub in-parts : (l : List ℤ) → 3 ≤ length l → word l 0 ∷ word l 1 ∷ word l 2 ∷ drop 3 l ≡ l
-in-parts [] h = absurd (omega arith)
-in-parts (a ∷ []) h = absurd (omega arith)
-in-parts (a ∷ (b ∷ [])) h = absurd (omega arith)
-in-parts (a ∷ (b ∷ (c ∷ l))) h = refl

@@ -1,11 +1,11 @@
 -- Words put into a book, as the code puts them: by a part that was lent and given back, or one by one.
-use mathlib.Core.Path.{_≡_, ap, _∙_}
+use mathlib.Core.Path.{_≡_, refl, ap, _∙_}
 use mathlib.Core.List.{List, [], _∷_, _++_, append-assoc, append-nil}
 use Prim.Native.Nat.{ℕ, _+_, _-_, _≤_, _<_}
 use native.Mathlib.Numerals.{add-one}
 use native.Mathlib.Omega.{arith}
 use lib.IntN.{ℤ}
-use lib.ListN.{length, take, drop, set}
+use lib.ListN.{length, take, drop, set, length-set}
 use lib.Seq.{drop-drop, drop-length, sets-eq, set-split}
 use borrow.Rule.Slice.PartMut.{putMid}
 use Rattle.book_rules.specs.Words.{put}
@@ -17,12 +17,26 @@ lent-back w c a e h =
     let k : a + (e - a) ≡ a + length c = omega arith in
     ap (λ (r : List ℤ). take a w ++ (c ++ r)) (drop-drop (e - a) a w ∙ ap (λ (n : ℕ). drop n w) k)
 
--- All words but the first, lent after the first was set.
-pub first-then-lent : (w c : List ℤ) (x : ℤ) (e : ℕ) → length w ≡ e → 0 < e → putMid 1 (e - 1) (set w 0 x) c ≡ x ∷ c
-first-then-lent [] c x e h p = absurd (omega arith)
-first-then-lent (y ∷ w) c x e h p =
-    let n : e - 1 ≡ length w = omega arith in
-    ap (λ (r : List ℤ). x ∷ (c ++ r)) (ap (λ (k : ℕ). drop k w) n ∙ drop-length w) ∙ ap (λ (r : List ℤ). x ∷ r) (append-nil c)
+-- A cell's words: four set, and the others lent.
+module _ (s p r m : ℤ) where
+  abbrev pub four-set : List ℤ → List ℤ
+  four-set w = set (set (set (set w 0 s) 1 p) 2 r) 3 m
+
+  pub length-four-set : (w : List ℤ) → length (four-set w) ≡ length w
+  length-four-set w = simp length-set refl
+
+  four-then-lent : (w c : List ℤ) → length w ≡ 24 → putMid 4 20 (four-set w) c ≡ s ∷ (p ∷ (r ∷ (m ∷ c)))
+  four-then-lent [] c h = absurd (omega arith)
+  four-then-lent (a ∷ []) c h = absurd (omega arith)
+  four-then-lent (a ∷ (b ∷ [])) c h = absurd (omega arith)
+  four-then-lent (a ∷ (b ∷ (d ∷ []))) c h = absurd (omega arith)
+  four-then-lent (a ∷ (b ∷ (d ∷ (e ∷ w)))) c h =
+      let n : 20 ≡ length w = omega arith in
+      ap (λ (l : List ℤ). s ∷ (p ∷ (r ∷ (m ∷ l)))) (ap (λ (l : List ℤ). c ++ l) (ap (λ (k : ℕ). drop k w) n ∙ drop-length w) ∙ append-nil c)
+
+pub cell-written : (w : List ℤ) {s p r m s′ p′ r′ m′ : ℤ} {c c′ : List ℤ} → length w ≡ 24 → s ≡ s′ → p ≡ p′ → r ≡ r′ → m ≡ m′ → c ≡ c′
+    → putMid 4 20 (four-set s p r m w) c ≡ s′ ∷ (p′ ∷ (r′ ∷ (m′ ∷ c′)))
+cell-written w {s} {p} {r} {m} {c = c} long es ep er em ec = four-then-lent s p r m w c long ∙ λ i. es i ∷ (ep i ∷ (er i ∷ (em i ∷ ec i)))
 
 pub one-set : (w : List ℤ) (a : ℕ) (x : ℤ) → a < length w → set w a x ≡ put w a (x ∷ [])
 unfolding put

@@ -1,5 +1,5 @@
 -- What the code finds held and what will stand, as the rule has them; and the gate before closure.
-use mathlib.Core.Path.{_≡_, refl}
+use mathlib.Core.Path.{_≡_, refl, ap}
 use mathlib.Core.Bool.{true, false, true≢false, false≢true}
 use mathlib.Core.List.{List}
 use mathlib.Core.Option.{Option, none, some}
@@ -8,29 +8,32 @@ use native.Mathlib.Omega.{arith}
 use lib.IntN.{ℤ}
 use Rattle.offer_rules.specs.Numbers.{draw}
 use Rattle.offer_rules.specs.Time.{slot-of}
-use Rattle.offer_rules.specs.Offer.{Pair, pairs, all-blank}
+use Rattle.offer_rules.specs.Offer.{Pair, pairs, Held, all-blank}
 use Rattle.offer_rules.specs.Gate.{Grounds, is-open, gate-refuses}
 use Rattle.book_rules.specs.Force.{View, first-of, variation-made, will-stand, pairs-of}
-use Rattle.book_rules.specs.Refusals.{gate-number}
+use Rattle.book_rules.specs.Refusals.{equal-words, over-held, revision-number, gate-number}
 use Rattle.cells.specs.declared.InForce as place
 use Rattle.cells.specs.declared.InForce.the-variants.{Nothing, Standing, Variation}
-use Rattle.cells.specs.Meaning.{meaning, is-nothing, words-in-force}
+use Rattle.cells.specs.Meaning.{held-at, meaning, is-nothing, is-same-offer}
 
 module _ (w : List ℤ) where
-  pub nothing-held : (x : place.InForce) (o : Option (List ℤ)) → meaning w x ≡ first-of none o → is-nothing x ≡ true → o ≡ none
+  pub nothing-held : (x : place.InForce) (o : Option Held) → meaning w x ≡ first-of none o → is-nothing x ≡ true → o ≡ none
   unfolding meaning first-of is-nothing
   nothing-held Nothing none e h = refl
   nothing-held Nothing (some l) e h = let z : _≡_ {A = ℕ} 0 1 = cc e in absurd (omega arith)
   nothing-held (Standing at) o e h = absurd (false≢true h)
   nothing-held (Variation at) o e h = absurd (false≢true h)
 
-  pub one-held : (x : place.InForce) (o : Option (List ℤ)) → meaning w x ≡ first-of none o → is-nothing x ≡ false → o ≡ some (words-in-force (meaning w x))
-  unfolding meaning first-of is-nothing words-in-force
-  one-held Nothing o e h = absurd (true≢false h)
-  one-held (Standing at) none e h = let z : _≡_ {A = ℕ} 0 1 = cc e in absurd (omega arith)
-  one-held (Standing at) (some l) e h = cc e
-  one-held (Variation at) none e h = let z : _≡_ {A = ℕ} 0 1 = cc e in absurd (omega arith)
-  one-held (Variation at) (some l) e h = let z : _≡_ {A = ℕ} 0 1 = cc e in absurd (omega arith)
+  -- 17 and 18 over what is held.
+  pub one-held : (x : place.InForce) (held : Option Held) (now k : ℕ) (o : List ℤ) → meaning w x ≡ first-of none held → is-nothing x ≡ false
+      → over-held now k (is-same-offer (meaning w x) o) ≡ revision-number now k held o
+  unfolding meaning first-of is-nothing is-same-offer revision-number
+  one-held Nothing held now k o e n = absurd (true≢false n)
+  one-held (Standing at) none now k o e n = let z : _≡_ {A = ℕ} 0 1 = cc e in absurd (omega arith)
+  one-held (Standing at) (some h) now k o e n =
+      let q : held-at w at ≡ h = cc e in ap (λ (x : Held). over-held now k (equal-words (x .offer) o)) q
+  one-held (Variation at) none now k o e n = let z : _≡_ {A = ℕ} 0 1 = cc e in absurd (omega arith)
+  one-held (Variation at) (some h) now k o e n = let z : _≡_ {A = ℕ} 0 1 = cc e in absurd (omega arith)
 
 -- What will stand: the sent offer, or, where its pairs are all blank, what stands of the slot.
 module _ (vw : View) (f s p : ℕ) (o : List ℤ) where

@@ -4,17 +4,18 @@ ghost use mathlib.Core.Path.{_≡_};
 ghost use Prim.Native.Nat.{_+_, _≤_, _<_};
 ghost use lib.ListN.{length};
 ghost use Rattle.offer_rules.specs.Numbers.{toNat, word};
-ghost use Rattle.offer_rules.specs.Offer.{pairs-in, offer-number};
+ghost use Rattle.offer_rules.specs.Offer.{pairs-in, pairs, all-blank, offer-number};
 ghost use Rattle.book_rules.specs.Words.{part, clock-place, limits-place, facility-place};
 ghost use Rattle.book_rules.specs.Force.{in-force, will-stand, pairs-of};
-ghost use Rattle.book_rules.specs.Refusals.{facility-number, gate-number, period-number, admission-number, admitted-standing, admitted-variation, grounds};
+ghost use Rattle.book_rules.specs.Refusals.{facility-number, gate-number, period-number, admission-number, admitted-standing, grounds};
 ghost use Rattle.book_rules.specs.Book.{facilities-in, services-in, window-in, book-view};
+ghost use Rattle.offers.specs.PairTests.{UsesFive};
 ghost use Rattle.gate.specs.Meaning.{window-of, grounds-of};
 ghost use Rattle.judging.specs.Usable.{Usable};
 use cells::held_standing;
 use cells::in_force;
 use cells::is_nothing;
-use cells::offer_of;
+use cells::is_same_offer;
 use cells::pairs_of;
 use gate::Grounds;
 use gate::Window;
@@ -25,7 +26,6 @@ use layout::facility;
 use layout::head;
 use layout::offer;
 use layout::refusal;
-use offers::is_all_blank;
 use refusals::draw_if;
 use refusals::first_drawn;
 use units::nat;
@@ -106,8 +106,8 @@ pub fn admission_number(book: &[i32], f: usize, service: u8, refused: bool) -> u
 }
 
 // 11 to 16 of an offer, under the book's limits and the facility's capability.
-fn offer_number(book: &[i32], f: usize, service: u8, reason: u8, offer: &[i32]) -> u8
-    requires { ⌜ Usable (now book) × (f < facilities-in (now book)) × (service < services-in (now book)) × (length (now offer) ≡ 23) ⌝ }
+pub fn offer_number(book: &[i32], f: usize, service: u8, reason: u8, offer: &[i32]) -> u8
+    requires { ⌜ Usable (now book) × (f < facilities-in (now book)) × (service < services-in (now book)) × (length (now offer) ≡ 23) × UsesFive service (now offer) ⌝ }
     ensures { λ r. ⌜ (r ≡ offer-number (part limits-place 6 (now (book .entry))) (part (facility-place f) 17 (now (book .entry))) service reason (now (offer .entry))) × (r ≤ 16) ⌝ }
 {
     offers::offer_number(
@@ -121,7 +121,7 @@ fn offer_number(book: &[i32], f: usize, service: u8, reason: u8, offer: &[i32]) 
 
 // 11 to 18 of a standing offer that is admitted: "A first one always passes the gate."
 pub fn admitted_standing(book: &[i32], f: usize, service: u8, slot: usize, offer: &[i32]) -> u8
-    requires { ⌜ Usable (now book) × (f < facilities-in (now book)) × (service < services-in (now book)) × (slot < 336) × (length (now offer) ≡ 23) ⌝ }
+    requires { ⌜ Usable (now book) × (f < facilities-in (now book)) × (service < services-in (now book)) × (slot < 336) × (length (now offer) ≡ 23) × UsesFive service (now offer) ⌝ }
     ensures { λ r. ⌜ (r ≡ admitted-standing (book-view (now (book .entry))) f service slot (now (offer .entry))) × (r ≤ 18) ⌝ }
 {
     let number = offer_number(book, f, service, 0, offer);
@@ -139,7 +139,8 @@ pub fn admitted_standing(book: &[i32], f: usize, service: u8, slot: usize, offer
     if is_nothing(held) {
         return 0;
     }
-    refusals::revision_number(clock(book), slot as u64, offer_of(book, held), offer)
+    let same = is_same_offer(book, held, offer);
+    refusals::revision_number(clock(book), slot as u64, same)
 }
 
 // ---- the gate
@@ -195,11 +196,12 @@ fn pairs_afterwards<'a>(
     service: u8,
     period: usize,
     offer: &'a [i32],
+    blank: bool,
 ) -> &'a [i32]
-    requires { ⌜ Usable (now book) × (f < facilities-in (now book)) × (service < services-in (now book)) × (length (now offer) ≡ 23) ⌝ }
+    requires { ⌜ Usable (now book) × (f < facilities-in (now book)) × (service < services-in (now book)) × (length (now offer) ≡ 23) × (blank ≡ all-blank (pairs (now offer))) ⌝ }
     ensures { λ r. ⌜ (pairs-in (now r) ≡ pairs-of (will-stand (book-view (now (book .entry))) f service period (now (offer .entry)))) × (length (now r) ≤ 20) ⌝ }
 {
-    if !is_all_blank(offer) {
+    if !blank {
         return &offer[offer::PAIRS..];
     }
     let standing = held_standing(
@@ -238,26 +240,23 @@ fn gate_number(
     draw_if(refuses, refusal::GATE_CLOSED)
 }
 
-// 11 to 17 of a variation that is admitted. Before closure, where most are filed, no offer is looked up.
-pub fn admitted_variation<'a>(
+// 17 of a variation, of which it is told whether its pairs are all blank. Before closure, where most are filed, no offer is looked up.
+pub fn variation_gate_number<'a>(
     book: &'a [i32],
     f: usize,
     service: u8,
     period: usize,
     reason: u8,
     offer: &'a [i32],
+    blank: bool,
 ) -> u8
-    requires { ⌜ Usable (now book) × (f < facilities-in (now book)) × (service < services-in (now book)) × (period < 2147483647) × (length (now offer) ≡ 23) ⌝ }
-    ensures { λ r. ⌜ (r ≡ admitted-variation (book-view (now (book .entry))) f service period reason (now (offer .entry))) × (r ≤ 17) ⌝ }
+    requires { ⌜ Usable (now book) × (f < facilities-in (now book)) × (service < services-in (now book)) × (period < 2147483647) × (length (now offer) ≡ 23) × (blank ≡ all-blank (pairs (now offer))) ⌝ }
+    ensures { λ r. ⌜ (r ≡ gate-number (toNat (word (now (book .entry)) clock-place)) (grounds (book-view (now (book .entry))) f) service period reason (pairs-of (in-force (book-view (now (book .entry))) f service period)) (pairs-of (will-stand (book-view (now (book .entry))) f service period (now (offer .entry))))) × (r ≤ 17) ⌝ }
 {
-    let number = offer_number(book, f, service, reason, offer);
-    if number != 0 {
-        return number;
-    }
     if is_before_closure(clock(book), period as u64) {
         return 0;
     }
     let old = pairs_before(book, f, service, period);
-    let new = pairs_afterwards(book, f, service, period, offer);
+    let new = pairs_afterwards(book, f, service, period, offer, blank);
     gate_number(book, f, service, period, reason, old, new)
 }

@@ -1,14 +1,20 @@
 // "Then cells of 24 words, numbered ((f·S + s)·2 + h)·336 + slot, h 0 standing, 1 variation: 0 stamp (0 empty, 1 standing, P + 1 variation),
-// 1 proportion, 2 ramp up, 3 ramp down, 4–23 pairs." An offer's words follow the stamp.
+// 1 proportion, .. 4–23 pairs"; "word 2 becomes ramp up times 10,000 plus ramp down, word 3 the minute" of acceptance.
 use crate::time;
 
 pub const STAMP: usize = 0;
 
-pub const OFFER: usize = 1;
+pub const PROPORTION: usize = 1;
+
+pub const RAMPS: usize = 2;
+
+pub const MINUTE: usize = 3;
 
 pub const PAIRS: usize = 4;
 
 pub const WORDS: usize = 24;
+
+pub const RAMP_UNIT: i32 = 10000;
 
 pub const SLOTS: usize = time::SLOTS as usize;
 

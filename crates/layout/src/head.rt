@@ -1,5 +1,5 @@
 // A book's head, as words from its start.
-// "Head: 0 the mark 0x534F42; 1 version 1; 2 F; 3 S; 4 clock; 5–10 first and last of notices 3, 4, 5;
+// "Head: 0 the mark 0x534F42; 1 version ..; 2 F; 3 S; 4 clock; 5–10 first and last of notices 3, 4, 5;
 // 11, 12 lowest and highest energy price; 13–16 highest price of services 1 to 4; the rest to 63 zero."
 pub const MARK: usize = 0;
 
@@ -23,10 +23,10 @@ pub const LIMITS_END: usize = 17;
 
 pub const WORDS: usize = 64;
 
-// What words 0 and 1 hold.
+// What words 0 and 1 hold. "The book's version, head word 1, becomes 2."
 pub const BOOK_MARK: i32 = 0x534F42;
 
-pub const BOOK_VERSION: i32 = 1;
+pub const BOOK_VERSION: i32 = 2;
 
 // "F not 1 to 64, S not 1 or 5"
 pub const MOST_FACILITIES: i32 = 64;

@@ -10,3 +10,6 @@ pub const PAIRS: usize = 3;
 pub const WORDS: usize = 23;
 
 pub const PAIR_COUNT: usize = 10;
+
+// 14 "also covers a ramp above 9,999"
+pub const MOST_RAMP: i32 = 9999;

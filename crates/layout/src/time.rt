@@ -16,6 +16,9 @@ pub const HORIZON_DAYS: u64 = 7;
 // "A variation is open when 30·P − now is 65 or more."
 pub const GATE_CLOSURE_MINUTES: u64 = 65;
 
+// "Word 0 is 3 for standing and 4 for variation while now minus that minute is below 5."
+pub const SCHEDULE_CUTOFF_MINUTES: i64 = 5;
+
 pub const LAST_MINUTE: i32 = 1000000000;
 
 // "not 0 ≤ A ≤ B ≤ 40,000,000"

@@ -5,9 +5,9 @@ use lib.IntN.{pos, negsuc}
 use lib.ListN.{length, replicate}
 use Rattle.lines.specs.Text.{text}
 
--- "0 1 700", of the look-up of period 4
+-- "0 3 700", of the look-up of period 4
 unfoldable pub LookUpLine : Type 0
-LookUpLine = text 0 (pos 1 ∷ []) (pos 700) ≡ 48 ∷ (32 ∷ (49 ∷ (32 ∷ (55 ∷ (48 ∷ (48 ∷ (10 ∷ [])))))))
+LookUpLine = text 0 (pos 3 ∷ []) (pos 700) ≡ 48 ∷ (32 ∷ (51 ∷ (32 ∷ (55 ∷ (48 ∷ (48 ∷ (10 ∷ [])))))))
 
 -- The largest number, the smallest words, the smallest sum: 44 bytes, and 320 with 24 words. No text is longer (`line_text`, `whole_text`).
 unfoldable pub LongestLine : Type 0

@@ -32,6 +32,14 @@ ramp-down o = word o 2
 unfoldable pub pairs : List ℤ → List Pair
 pairs o = pairs-in (drop 3 o)
 
+-- What a state holds of an offer: its words, and "the minute of its acceptance" (document 02).
+pub record Held : Type 0 where
+  pub offer : List ℤ
+  pub minute : ℤ
+
+abbrev pub accepted-at : ℕ → List ℤ → Held
+accepted-at now o = record { offer = o; minute = pos now }
+
 -- "A pair with quantity 0 is blank, and blanks may stand anywhere."
 unfoldable pub is-blank : Pair → Bool
 is-blank x = eqZ (x .quantity) (pos 0)
@@ -117,9 +125,15 @@ rises [] = true
 rises (x ∷ []) = true
 rises (x ∷ (y ∷ l)) = ltZ x y && rises (y ∷ l)
 
--- 14 "energy ramp outside 0 to its maximum"
+-- 14 "energy ramp outside 0 to its maximum"; "also covers a ramp above 9,999" (document 02)
+abbrev pub most-ramp : ℤ
+most-ramp = pos 9999
+
+unfoldable pub ramp-beyond : ℤ → ℤ → Bool
+ramp-beyond maximum ramp = beyond (pos 0) maximum ramp || ltZ most-ramp ramp
+
 unfoldable pub ramp-refused : List ℤ → ℕ → List ℤ → Bool
-ramp-refused c s o = is-energy s && (beyond (pos 0) (max-ramp-up c) (ramp-up o) || beyond (pos 0) (max-ramp-down c) (ramp-down o))
+ramp-refused c s o = is-energy s && (ramp-beyond (max-ramp-up c) (ramp-up o) || ramp-beyond (max-ramp-down c) (ramp-down o))
 
 -- 15 "generation reserve: proportion 0 or above its maximum; load isn't tested"
 unfoldable pub proportion-refused : List ℤ → ℕ → List ℤ → Bool

@@ -4,7 +4,8 @@
 use mathlib.Core.Bool.{Bool, true, false, _||_}
 use Prim.Native.Nat.{ℕ, _+_, _*_, _-_, _/_, _%_}
 use lib.Dec.{leb}
-use lib.IntN.{ℤ, pos, negsuc}
+use lib.IntN.{ℤ, pos, negsuc, _-ℤ_}
+use lib.Signed.{ltZ}
 use Rattle.offer_rules.specs.Numbers.{beyond}
 
 -- "Period P starts at minute 30·P."
@@ -45,6 +46,13 @@ past-horizon now (negsuc p) = false
 
 unfoldable pub period-refused : ℕ → ℤ → Bool
 period-refused now p = has-begun now p || past-horizon now p
+
+-- Document 02: "an offer accepted less than five minutes before a schedule isn't sure to be in it". It is shown so "while now minus that minute is below 5".
+abbrev pub schedule-cutoff : ℤ
+schedule-cutoff = pos 5
+
+unfoldable pub is-fresh : ℕ → ℤ → Bool
+is-fresh now minute = ltZ (pos now -ℤ minute) schedule-cutoff
 
 -- "the slot's next period not yet begun": the least, by the laws of proofs/Periods.
 unfoldable pub next-period : ℕ → ℕ → ℕ

@@ -1,9 +1,12 @@
 -- The tests of a pair over typed prices and quantities, and what a walk through the pairs finds.
 -- proofs/Walks shows that its flags are the definitions of refusals 11 to 13.
+use mathlib.Core.Path.{_≡_}
 use mathlib.Core.Bool.{Bool, true, false, not, cond, _&&_, _||_}
 use mathlib.Core.List.{List, [], _∷_}
+use Prim.Native.Nat.{ℕ}
 use lib.IntN.{ℤ, pos, _+ℤ_}
 use lib.Signed.{ltZ}
+use lib.ListN.{drop}
 use Rattle.offer_rules.specs.Numbers.{eqZ, beyond, any-beyond}
 use Rattle.offer_rules.specs.Offer.{Pair}
 use Rattle.units.specs.Typed.{price-of, quantity-of}
@@ -60,6 +63,13 @@ found-from lowest highest f (x ∷ l) =
 
 abbrev pub found-in : Price → Price → List Pair → Findings
 found-in lowest highest l = found-from lowest highest none-yet l
+
+-- "for 1 to 3 the proportion and five pairs; for 4 five pairs": refusal 4 has left the other five empty, among the pairs' words and an offer's.
+abbrev pub FiveUsed : ℕ → List ℤ → Type 0
+FiveUsed s ws = (s ≡ 0 → ⊥) → any-beyond (pos 0) (pos 0) ws 10 10 ≡ false
+
+abbrev pub UsesFive : ℕ → List ℤ → Type 0
+UsesFive s o = FiveUsed s (drop 3 o)
 
 -- Words 10 to 19, the last five of ten pairs, are all 0, and 11 doesn't refuse such a pair: then they change nothing.
 unfoldable pub do-five-suffice : Price → Price → List ℤ → Bool

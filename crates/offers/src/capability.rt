@@ -5,8 +5,8 @@ ghost use Prim.Native.Nat.{_≤_, _<_};
 ghost use lib.IntN.{pos};
 ghost use lib.Signed.{ltZ};
 ghost use lib.ListN.{length};
-ghost use Rattle.offer_rules.specs.Numbers.{eqZ, word, beyond};
-ghost use Rattle.offer_rules.specs.Offer.{ramp-refused, proportion-refused, above-capacity};
+ghost use Rattle.offer_rules.specs.Numbers.{eqZ, word};
+ghost use Rattle.offer_rules.specs.Offer.{ramp-beyond, ramp-refused, proportion-refused, above-capacity};
 ghost use Rattle.offers.specs.Typed.{ramp-of, proportion-of};
 use crate::pairs::Sum;
 use kinds::is_proportion_tested;
@@ -29,10 +29,11 @@ fn ramp_at(words: &[i32], at: usize) -> Ramp
     Ramp(words[at])
 }
 
+// "outside 0 to its maximum", or "above 9,999", whatever its maximum
 fn is_ramp_beyond(maximum: Ramp, ramp: Ramp) -> bool
-    ensures { λ r. ⌜ r ≡ beyond (pos 0) (maximum .0) (ramp .0) ⌝ }
+    ensures { λ r. ⌜ r ≡ ramp-beyond (maximum .0) (ramp .0) ⌝ }
 {
-    is_beyond(0, maximum.0, ramp.0)
+    is_beyond(0, maximum.0, ramp.0) | (offer::MOST_RAMP < ramp.0)
 }
 
 // "energy ramp outside 0 to its maximum"

@@ -5,6 +5,7 @@ ghost use Prim.Native.Nat.{_≤_};
 ghost use lib.ListN.{length};
 ghost use Rattle.offer_rules.specs.Time.{slot-refused, period-refused};
 ghost use Rattle.offer_rules.specs.Offer.{offer-number};
+ghost use Rattle.offers.specs.PairTests.{UsesFive};
 
 mod capability;
 mod pairs;
@@ -50,7 +51,7 @@ pub fn offer_number(
     reason: u8,
     offer: &[i32],
 ) -> u8
-    requires { ⌜ (length (now limits) ≡ 6) × (length (now capability) ≡ 17) × (service ≤ 4) × (length (now offer) ≡ 23) ⌝ }
+    requires { ⌜ (length (now limits) ≡ 6) × (length (now capability) ≡ 17) × (service ≤ 4) × (length (now offer) ≡ 23) × UsesFive service (now offer) ⌝ }
     ensures { λ r. ⌜ (r ≡ offer-number (now (limits .entry)) (now (capability .entry)) service reason (now (offer .entry))) × (r ≤ 16) ⌝ }
 {
     let f = findings_of(limits, service, offer);

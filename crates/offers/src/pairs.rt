@@ -1,19 +1,18 @@
 // The pairs of an offer: ten quantities added, whether all are blank, and the tests of refusals 11 to 13.
 // Prices and quantities have types of their own, so that neither is taken for the other.
 ghost use mathlib.Core.Path.{_≡_};
-ghost use mathlib.Core.Bool.{true, false, not, cond};
+ghost use mathlib.Core.Bool.{true, false, not, cond, _&&_};
 ghost use Prim.Native.Nat.{_*_, _≤_};
+ghost use lib.Dec.{eqb};
 ghost use lib.IntN.{pos, natAbs, _+ℤ_};
 ghost use lib.ListN.{length, drop};
-ghost use Rattle.offer_rules.specs.Numbers.{any-beyond};
 ghost use Rattle.offer_rules.specs.Offer.{pairs-in, pairs, all-blank, sum-of, lowest-price, highest-price};
-ghost use Rattle.units.specs.Typed.{price-of};
-ghost use Rattle.offers.specs.PairTests.{blank, is-out-of-range, still-rises, with-blank, with-filled, with-pair, found-from, found-in, do-five-suffice};
+ghost use Rattle.units.specs.Typed.{price-of, quantity-of};
+ghost use Rattle.offers.specs.PairTests.{blank, is-out-of-range, still-rises, with-blank, with-filled, with-pair, found-from, found-in, FiveUsed, UsesFive};
 use layout::facility;
 use layout::offer;
 use units::Price;
 use units::Quantity;
-use units::any_beyond;
 use units::is_beyond;
 use units::is_zero;
 use units::price_at;
@@ -147,23 +146,14 @@ fn with_pair(f: Findings, price: Price, quantity: Quantity) -> Findings
     with_filled(f, price, quantity)
 }
 
-// Pairs six to ten have neither a price nor a quantity.
-fn are_last_five_empty(pairs: &[i32]) -> bool
-    requires { ⌜ length (now pairs) ≡ 20 ⌝ }
-    ensures { λ r. ⌜ r ≡ not (any-beyond (pos 0) (pos 0) (now (pairs .entry)) 10 10) ⌝ }
-{
-    !any_beyond(pairs, 10, 10, 0, 0)
-}
-
-// Whether the walk may end after five pairs. Services 1 to 4 use no more; energy may use ten, so it isn't tested.
-fn do_five_suffice(lowest: Price, highest: Price, service: u8, pairs: &[i32]) -> bool
-    requires { ⌜ length (now pairs) ≡ 20 ⌝ }
-    ensures { λ r. ⌜ (r ≡ true → do-five-suffice lowest highest (now (pairs .entry)) ≡ true) ⌝ }
+// Whether the walk may end after five pairs. Services 1 to 4 use no more, and the others are empty; they are tested where 11 would refuse an empty one.
+fn do_five_suffice(lowest: Price, highest: Price, service: u8) -> bool
+    ensures { λ r. ⌜ r ≡ (not (eqb service 0) && not (is-out-of-range lowest highest (price-of (pos 0)) (quantity-of (pos 0)))) ⌝ }
 {
     if service == facility::ENERGY {
         return false;
     }
-    !is_out_of_range(lowest, highest, Price(0), Quantity(0)) & are_last_five_empty(pairs)
+    !is_out_of_range(lowest, highest, Price(0), Quantity(0))
 }
 
 // The pairs from one to before another, after findings f. The walk ends at the first that 11 refuses: no number below 11 is left to be
@@ -198,9 +188,9 @@ fn walk(
     f
 }
 
-// All ten pairs. It is short, and ends after five, where the others would change nothing.
-fn findings_in(lowest: Price, highest: Price, pairs: &[i32], short: bool) -> Findings
-    requires { ⌜ (length (now pairs) ≡ 20) × (short ≡ true → do-five-suffice lowest highest (now pairs) ≡ true) ⌝ }
+// All ten pairs, or five of them where the others would change nothing; whether they would is asked after the first five, with nothing more to keep on the way.
+fn findings_in(lowest: Price, highest: Price, service: u8, pairs: &[i32]) -> Findings
+    requires { ⌜ (length (now pairs) ≡ 20) × FiveUsed service (now pairs) ⌝ }
     ensures { λ r. ⌜ r ≡ found-in lowest highest (pairs-in (now (pairs .entry))) ⌝ }
 {
     let none = Findings {
@@ -212,6 +202,7 @@ fn findings_in(lowest: Price, highest: Price, pairs: &[i32], short: bool) -> Fin
         total: Sum(0),
     };
     let five = walk(lowest, highest, none, pairs, 0, 5);
+    let short = do_five_suffice(lowest, highest, service);
     if five.out_of_range | short {
         return five;
     }
@@ -238,12 +229,11 @@ fn highest_price(limits: &[i32], service: u8) -> Price
 }
 
 pub fn findings_of(limits: &[i32], service: u8, offer: &[i32]) -> Findings
-    requires { ⌜ (length (now limits) ≡ 6) × (service ≤ 4) × (length (now offer) ≡ 23) ⌝ }
+    requires { ⌜ (length (now limits) ≡ 6) × (service ≤ 4) × (length (now offer) ≡ 23) × UsesFive service (now offer) ⌝ }
     ensures { λ r. ⌜ r ≡ found-in (price-of (lowest-price (now (limits .entry)) service)) (price-of (highest-price (now (limits .entry)) service)) (pairs (now (offer .entry))) ⌝ }
 {
     let lowest = lowest_price(limits, service);
     let highest = highest_price(limits, service);
     let pairs = &offer[offer::PAIRS..];
-    let short = do_five_suffice(lowest, highest, service, pairs);
-    findings_in(lowest, highest, pairs, short)
+    findings_in(lowest, highest, service, pairs)
 }

@@ -84,7 +84,7 @@ fn clear(words: &mut [i32])
     }
 }
 
-// "0 the mark 0x534F42; 1 version 1; 2 F; 3 S; 4 clock; 5–10 first and last of notices 3, 4, 5", and the limits
+// "0 the mark 0x534F42; 1 version ..; 2 F; 3 S; 4 clock; 5–10 first and last of notices 3, 4, 5", and the limits
 fn write_head(head: &mut [i32], facilities: usize, services: usize, limits: [i32; 6])
     requires { ⌜ (length (now head) ≡ 64) × (facilities ≤ 64) × (services ≤ 5) ⌝ }
     ensures { λ _. ⌜ now (head .exit) ≡ opening-head facilities services limits ⌝ }

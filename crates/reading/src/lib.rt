@@ -11,6 +11,7 @@ use cells::is_nothing;
 use cells::look_up;
 use cells::plain;
 use cells::total;
+use judging::clock;
 use judging::facilities;
 use judging::kind_number;
 use judging::period_number;
@@ -45,7 +46,7 @@ pub fn look_up_call(book: &[i32], bytes: &[u8]) -> Answer
     if is_nothing(x) {
         return plain(refusal::NOTHING_IN_FORCE);
     }
-    look_up(book, x)
+    look_up(book, clock(book), x)
 }
 
 // 10; answers the count and the sum.

@@ -1,3 +1,2 @@
 -- Laws of the loops over words, and of an outage that draws no number.
-pub mod WordByWord
 pub mod OutagePassed

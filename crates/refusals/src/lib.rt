@@ -1,15 +1,14 @@
 // Document 01, "Who draws which number": 5 to 9, 17 of a standing offer, and 18, from values that the book hands over.
-// A facility's capability is 17 words W0 to W16, an offer 23 words.
+// A facility's capability is 17 words W0 to W16.
 ghost use mathlib.Core.Path.{_≡_};
 ghost use mathlib.Core.Bool.{not, _&&_};
-ghost use mathlib.Core.Option.{some};
 ghost use Prim.Native.Nat.{_+_, _/_, _≤_, _<_, max};
 ghost use lib.IntN.{pos};
 ghost use lib.ListN.{length};
 ghost use Rattle.offer_rules.specs.Numbers.{eqZ, toNat, word, draw, _then_};
 ghost use Rattle.offer_rules.specs.Kinds.{is-in};
 ghost use Rattle.kinds.specs.Meaning.{range-of};
-ghost use Rattle.book_rules.specs.Refusals.{facility-number, clock-number, outage-number, notice-number, withdrawal-number, is-registered, kind-refused, maxima-refused, any-mark-astray, marks-refused, capability-number, registration-number, equal-words, revision-number};
+ghost use Rattle.book_rules.specs.Refusals.{facility-number, clock-number, outage-number, notice-number, withdrawal-number, is-registered, kind-refused, maxima-refused, any-mark-astray, marks-refused, capability-number, registration-number, over-held};
 use gate::standing_gate_refuses;
 use kinds::Range;
 use kinds::is_in;
@@ -136,7 +135,7 @@ fn is_maximum_refused(sent: &[i32]) -> bool
     ensures { λ r. ⌜ r ≡ maxima-refused (now (sent .entry)) ⌝ }
 {
     let maximum = any_beyond(sent, facility::MAX_GENERATION, 6, 0, 99999);
-    let ramp = any_beyond(sent, facility::MAX_RAMP_UP, 2, 0, 9999);
+    let ramp = any_beyond(sent, facility::MAX_RAMP_UP, 2, 0, offer::MOST_RAMP);
     let proportion = any_beyond(sent, facility::MAX_PROPORTION, 3, 0, 1000);
     (maximum | ramp) | proportion
 }
@@ -202,31 +201,11 @@ pub fn registration_number(capability: &[i32], service: u8) -> u8
 
 // ---- 17 and 18: a standing offer over a held one
 
-// Word `at` of both is the same.
-fn is_word_same(held: &[i32], offer: &[i32], at: usize) -> bool
-    requires { ⌜ (at < length (now held)) × (at < length (now offer)) ⌝ }
-    ensures { λ r. ⌜ r ≡ eqZ (word (now (held .entry)) at) (word (now (offer .entry)) at) ⌝ }
-{
-    is_equal(held[at], offer[at])
-}
-
-// "equal to the held one in cell words 1–23"
-fn equal_words(held: &[i32], offer: &[i32]) -> bool
-    requires { ⌜ (length (now held) ≡ 23) × (length (now offer) ≡ 23) ⌝ }
-    ensures { λ r. ⌜ r ≡ equal-words (now (held .entry)) (now (offer .entry)) ⌝ }
-{
-    let mut equal = true;
-    for i in 0..offer::WORDS {
-        equal = equal & is_word_same(held, offer, i);
-    }
-    equal
-}
-
-// 17, then 18.
-pub fn revision_number(clock: u64, slot: u64, held: &[i32], offer: &[i32]) -> u8
-    requires { ⌜ (clock ≤ 1000000000) × (slot < 336) × (length (now held) ≡ 23) × (length (now offer) ≡ 23) ⌝ }
-    ensures { λ r. ⌜ (r ≡ revision-number clock slot (some (now (held .entry))) (now (offer .entry))) × (r ≤ 18) ⌝ }
+// 17, then 18 where it is equal to the held one.
+pub fn revision_number(clock: u64, slot: u64, same: bool) -> u8
+    requires { ⌜ (clock ≤ 1000000000) × (slot < 336) ⌝ }
+    ensures { λ r. ⌜ (r ≡ over-held clock slot same) × (r ≤ 18) ⌝ }
 {
     let gate = draw_if(standing_gate_refuses(clock, slot), refusal::GATE_CLOSED);
-    first_drawn(gate, draw_if(equal_words(held, offer), refusal::DUPLICATE))
+    first_drawn(gate, draw_if(same, refusal::DUPLICATE))
 }

@@ -1,16 +1,17 @@
 // The seven calls that write (1 to 7), on a book that passes 1 by a record that passes 2, 3 and 4.
 // Each returns its number and writes nothing, or returns 0 and writes what it files.
 ghost use mathlib.Core.Path.{_≡_};
-ghost use mathlib.Core.Bool.{cond};
-ghost use Prim.Native.Nat.{_<_};
+ghost use mathlib.Core.Bool.{true, cond};
+ghost use Prim.Native.Nat.{_≤_, _<_};
 ghost use lib.Dec.{eqb};
 ghost use lib.ListN.{length};
 ghost use Rattle.offer_rules.specs.Numbers.{toNat, word};
 ghost use Rattle.offer_rules.specs.Time.{slot-refused, period-refused};
+ghost use Rattle.offer_rules.specs.Offer.{pairs, accepted-at, all-blank};
 ghost use Rattle.book_rules.specs.Record.{call-of, period-word};
-ghost use Rattle.book_rules.specs.Words.{clock-place, cell};
+ghost use Rattle.book_rules.specs.Words.{clock-place, cell, ramps-fit};
 ghost use Rattle.book_rules.specs.Force.{plain};
-ghost use Rattle.book_rules.specs.Book.{facilities-in, services-in, write-cell, file-variation, book-answer, book-after};
+ghost use Rattle.book_rules.specs.Book.{facilities-in, services-in, write-cell, file-standing, file-variation, book-answer, book-after};
 ghost use Rattle.judging.specs.Usable.{Usable};
 ghost use Rattle.judging.specs.Tested.{Tested, Facility, Place, Admitted};
 use cells::store_offer;
@@ -19,11 +20,12 @@ use cells::store_word;
 use cells::store_words;
 use judging::admission_number;
 use judging::admitted_standing;
-use judging::admitted_variation;
 use judging::clock;
 use judging::facilities;
 use judging::kind_number;
+use judging::offer_number;
 use judging::services;
+use judging::variation_gate_number;
 use judging::wide;
 use layout::cell;
 use layout::facility;
@@ -92,11 +94,12 @@ fn file_offer(
     half: usize,
     slot: usize,
     stamp: u32,
+    minute: u64,
     offer: &[i32],
     number: u8,
 ) -> u8
-    requires { ⌜ Usable (now book) × (f < facilities-in (now book)) × (service < services-in (now book)) × (half < 2) × (slot < 336) × (stamp < 2147483648) × (length (now offer) ≡ 23) ⌝ }
-    ensures { λ r. ⌜ (r ≡ number) × (now (book .exit) ≡ cond (eqb number 0) (write-cell (now (book .entry)) f service half slot (cell stamp (now (offer .entry)))) (now (book .entry))) ⌝ }
+    requires { ⌜ Usable (now book) × (f < facilities-in (now book)) × (service < services-in (now book)) × (half < 2) × (slot < 336) × (stamp < 2147483648) × (minute ≤ 1000000000) × (length (now offer) ≡ 23) × (number ≡ 0 → ramps-fit (now offer) ≡ true) ⌝ }
+    ensures { λ r. ⌜ (r ≡ number) × (now (book .exit) ≡ cond (eqb number 0) (write-cell (now (book .entry)) f service half slot (cell stamp (accepted-at minute (now (offer .entry))))) (now (book .entry))) ⌝ }
 {
     if number != 0 {
         return number;
@@ -110,9 +113,36 @@ fn file_offer(
         half,
         slot,
         stamp,
+        minute,
         offer,
     );
     0
+}
+
+// Files a standing offer and returns 0, or returns the number that it drew.
+fn file_standing(
+    book: &mut [i32],
+    f: usize,
+    service: u8,
+    slot: usize,
+    offer: &[i32],
+    number: u8,
+) -> u8
+    requires { ⌜ Usable (now book) × (f < facilities-in (now book)) × (service < services-in (now book)) × (slot < 336) × (length (now offer) ≡ 23) × (number ≡ 0 → ramps-fit (now offer) ≡ true) ⌝ }
+    ensures { λ r. ⌜ (r ≡ number) × (now (book .exit) ≡ cond (eqb number 0) (file-standing (now (book .entry)) f service slot (now (offer .entry))) (now (book .entry))) ⌝ }
+{
+    let minute = clock(book);
+    file_offer(
+        book,
+        f,
+        service,
+        cell::STANDING_HALF,
+        slot,
+        cell::STANDING_STAMP,
+        minute,
+        offer,
+        number,
+    )
 }
 
 // 11 to 18 of a standing offer that is admitted; files one cell.
@@ -126,16 +156,7 @@ fn stand(book: &mut [i32], bytes: &[u8]) -> u8
     let mut offer = [0i32; offer::WORDS];
     read_offer(bytes, &mut offer);
     let number = admitted_standing(book, f, service, slot, &offer);
-    file_offer(
-        book,
-        f,
-        service,
-        cell::STANDING_HALF,
-        slot,
-        cell::STANDING_STAMP,
-        &offer,
-        number,
-    )
+    file_standing(book, f, service, slot, &offer, number)
 }
 
 // 5, 9 and 10 are drawn before the offer is read from the bytes, which takes longer than the rest of such a call.
@@ -152,7 +173,7 @@ pub fn standing_call(book: &mut [i32], bytes: &[u8]) -> u8
     stand(book, bytes)
 }
 
-// Files a variation and returns 0, or returns the number that it drew. Where its pairs are all blank, "Its cell becomes 24 zeros."
+// Files a variation and returns 0, or returns the number that it drew. Where its pairs are all blank, as it is told, "Its cell becomes 24 zeros."
 // "The slot of P is P mod 336."
 fn file_variation(
     book: &mut [i32],
@@ -160,9 +181,10 @@ fn file_variation(
     service: u8,
     period: usize,
     offer: &[i32],
+    blank: bool,
     number: u8,
 ) -> u8
-    requires { ⌜ Usable (now book) × (f < facilities-in (now book)) × (service < services-in (now book)) × (period < 2147483647) × (length (now offer) ≡ 23) ⌝ }
+    requires { ⌜ Usable (now book) × (f < facilities-in (now book)) × (service < services-in (now book)) × (period < 2147483647) × (length (now offer) ≡ 23) × (ramps-fit (now offer) ≡ true) × (blank ≡ all-blank (pairs (now offer))) ⌝ }
     ensures { λ r. ⌜ (r ≡ number) × (now (book .exit) ≡ cond (eqb number 0) (file-variation (now (book .entry)) f service period (now (offer .entry))) (now (book .entry))) ⌝ }
 {
     if number != 0 {
@@ -170,7 +192,7 @@ fn file_variation(
     }
     let slot = period % cell::SLOTS;
     let stamp = (period + 1) as u32;
-    if is_all_blank(offer) {
+    if blank {
         let none = [0i32; offer::WORDS];
         return file_offer(
             book,
@@ -179,10 +201,12 @@ fn file_variation(
             cell::VARIATION_HALF,
             slot,
             cell::EMPTY_STAMP,
+            0,
             &none,
             number,
         );
     }
+    let minute = clock(book);
     file_offer(
         book,
         f,
@@ -190,6 +214,7 @@ fn file_variation(
         cell::VARIATION_HALF,
         slot,
         stamp,
+        minute,
         offer,
         number,
     )
@@ -203,10 +228,16 @@ fn vary(book: &mut [i32], bytes: &[u8]) -> u8
     let f = wide(bytes[fields::FACILITY]);
     let service = bytes[fields::SERVICE];
     let period = nat(word_at(bytes, fields::PERIOD)) as usize;
+    let reason = bytes[fields::REASON];
     let mut offer = [0i32; offer::WORDS];
     read_offer(bytes, &mut offer);
-    let number = admitted_variation(book, f, service, period, bytes[fields::REASON], &offer);
-    file_variation(book, f, service, period, &offer, number)
+    let number = offer_number(book, f, service, reason, &offer);
+    if number != 0 {
+        return number;
+    }
+    let blank = is_all_blank(&offer);
+    let gate = variation_gate_number(book, f, service, period, reason, &offer, blank);
+    file_variation(book, f, service, period, &offer, blank, gate)
 }
 
 // 5, 9 and 10 before the offer is read, as of a standing offer.

@@ -1,9 +1,6 @@
 """Books whose words no list of calls could have left: what the calls answer from them, by the words that are there."""
-from .form import (GENERATION, LEAST, LOAD, MOST, block, capability, cell, clock, look_up, notice, outage, pairs_at, standing, total, variation,
-                   with_words, withdrawal)
-
-# Facility 0's cells for energy and slot 100 in a book of one facility and one service
-STANDING_AT, VARIATION_AT = cell(1, 1, 0, 0, 0, 100), cell(1, 1, 0, 0, 1, 100)
+from .form import (GENERATION, LEAST, LOAD, MOST, STANDING_AT, VARIATION_AT, block, capability, cell, clock, look_up, notice, outage, pairs_at, standing,
+                   total, variation, with_words, withdrawal)
 
 
 def _energy_book(t, now, F=1, S=1):
@@ -18,20 +15,20 @@ def variation_stamps(t):
     """A variation cell whose stamp names another period, or none: the standing offer answers; the named period finds it."""
     _energy_book(t, 0)
     t.call(variation(0, 0, 100, [(4000, 80)]))
-    t.call(look_up(0, 0, 100), 0, 2, 80)
+    t.call(look_up(0, 0, 100), 0, 4, 80)
     for stamp in (0, 1, 2, 100, 102, 436, 437, 438, -101, -1, LEAST, MOST, 101 + 65536):
         t.write({VARIATION_AT: stamp})
-        t.call(look_up(0, 0, 100), 0, 1, 70)
+        t.call(look_up(0, 0, 100), 0, 3, 70)
         t.call(total(0, 100), 0, 1, 70)
     t.write({VARIATION_AT: 101})
-    t.call(look_up(0, 0, 100), 0, 2, 80)
+    t.call(look_up(0, 0, 100), 0, 4, 80)
     t.write({VARIATION_AT: 437, 4: 4320})
     t.call(look_up(0, 0, 436), 0, 2, 80)
     t.call(total(0, 436), 0, 1, 80)
     t.write({VARIATION_AT: 101})
     t.call(look_up(0, 0, 436), 0, 1, 70)
     t.call(variation(0, 0, 436, [(4000, 90)]))
-    t.call(look_up(0, 0, 436), 0, 2, 90)
+    t.call(look_up(0, 0, 436), 0, 4, 90)
     t.words()
 
 
@@ -45,7 +42,7 @@ def standing_stamps(t):
         t.write({4: 2999})
         t.call(standing(0, 0, 100, [(4000, 70)]))
         t.call(standing(0, 0, 100, [(4000, 70)]), 17)
-        t.call(look_up(0, 0, 100), 0, 1, 70)
+        t.call(look_up(0, 0, 100), 0, 3, 70)
     t.words()
 
 
@@ -100,9 +97,9 @@ def negative_quantities_in_a_variation(t):
     t.call(total(1, 100), 0, 1, -960)
     t.call(variation(0, 1, 100, [(40, 70)], 5, 1), 17)
     t.call(variation(0, 1, 100, [(40, 71)], 5, 1))
-    t.call(look_up(0, 1, 100), 0, 2, 71)
+    t.call(look_up(0, 1, 100), 0, 4, 71)
     t.write({at + 4 + 18: 40, at + 4 + 19: 9})
-    t.call(look_up(0, 1, 100), 0, 2, 80)
+    t.call(look_up(0, 1, 100), 0, 4, 80)
     t.call(variation(0, 1, 100, [(40, 80)], 5, 1), 17)
     t.call(variation(0, 1, 100, [(40, 81)], 5, 1))
     t.words()
@@ -117,11 +114,11 @@ def sums_past_32_bits(t):
     for quantity in (MOST, LEAST, 1 << 30, -1, 429496730):  # ten of the last are 4 above 2^32
         for f in range(7):
             t.write(pairs_at(cell(7, 1, f, 0, 0, 60), [(i, quantity) for i in range(10)]))
-        t.call(look_up(0, 0, 60), 0, 1, 10 * quantity)
-        t.call(look_up(6, 0, 60), 0, 1, 10 * quantity)
+        t.call(look_up(0, 0, 60), 0, 3, 10 * quantity)
+        t.call(look_up(6, 0, 60), 0, 3, 10 * quantity)
         t.call(total(0, 60), 0, 7, 70 * quantity)
     t.write(pairs_at(cell(7, 1, 3, 0, 0, 60), [(0, MOST), (0, LEAST)] * 5))
-    t.call(look_up(3, 0, 60), 0, 1, -5)
+    t.call(look_up(3, 0, 60), 0, 3, -5)
     t.words()
 
 
@@ -138,7 +135,7 @@ def old_total_past_32_bits(t):
         t.call(variation(0, 0, 100, [(4001, 800)], 3), 17)
         t.call(variation(0, 0, 100, [(4000, 799), (4001, 1)], 3), 17)
         t.call(variation(0, 0, 100, [(4000, 800)], 3))
-        t.call(look_up(0, 0, 100), 0, 2, 800)
+        t.call(look_up(0, 0, 100), 0, 4, 800)
     t.words()
 
 
@@ -198,7 +195,7 @@ def marks_damaged(t):
 
 
 def maxima_damaged(t):
-    """Maxima below 0 refuse a blank offer too, with 14 or 16; maxima past any total let 999,990 tenths pass."""
+    """Maxima below 0 refuse a blank offer too, with 14 or 16; maxima past any total let 999,990 tenths pass, and ramps of 9,999."""
     t.open(1, 5)
     t.call(capability(0, GENERATION))
     for word, s, number in ((1, 0, 16), (2, 0, 16), (3, 1, 16), (4, 2, 16), (5, 3, 16), (6, 4, 16), (7, 0, 14), (8, 0, 14)):
@@ -210,9 +207,9 @@ def maxima_damaged(t):
         t.write({block(0) + word: 0})
         t.call(standing(0, s, 60 + word, [], proportion))
         t.write({block(0) + word: MOST})
-        t.call(standing(0, s, 70 + word, [], proportion, (MOST if word == 7 else 0, MOST if word == 8 else 0)))
+        t.call(standing(0, s, 70 + word, [], proportion, (9999 if word == 7 else 0, 9999 if word == 8 else 0)))
     t.call(variation(0, 0, 60, [(i, 99999) for i in range(10)]))
-    t.call(look_up(0, 0, 60), 0, 2, 999_990)
+    t.call(look_up(0, 0, 60), 0, 4, 999_990)
     t.call(variation(0, 4, 60, [(i, 99999) for i in range(5)]))
     t.call(total(4, 60), 0, 1, 499_995)
     t.words()
@@ -232,7 +229,7 @@ def limits_damaged(t):
     t.write({11: LEAST, 12: MOST})
     t.call(variation(0, 0, 62, {0: (LEAST, 7), 9: (MOST, 8)}))
     t.call(variation(0, 0, 62, {0: (MOST, 7), 9: (LEAST, 8)}), 13)
-    t.call(look_up(0, 0, 62), 0, 2, 15)
+    t.call(look_up(0, 0, 62), 0, 4, 15)
     t.write({11: 5, 12: -5})
     t.call(variation(0, 0, 63, [(0, 7)]), 11)
     for s in (1, 2, 3, 4):
@@ -263,7 +260,7 @@ def reserved_words(t):
 
 
 def held_words_are_shown(t):
-    """A look-up gives words 1 to 23 of the cell as they are, whatever the service uses; so does the test for a duplicate take them."""
+    """Proportion, ramps and pairs of a cell are shown whatever the service uses, and so are they taken by the test for a duplicate."""
     t.open(1, 5)
     t.call(capability(0, GENERATION))
     for s in range(5):
@@ -274,14 +271,14 @@ def held_words_are_shown(t):
         for i in (1, 2, 3, 22, 23):
             held = {1: proportion, 2: 0, 3: 0, 22: 0, 23: 0}[i]
             t.write({at + i: -7 - i})
-            t.call(look_up(0, s, 60), 0, 1, 2 - (30 if i == 23 else 0))
+            t.call(look_up(0, s, 60), 0, 1 if i == 3 else 3, 2 - (30 if i == 23 else 0))
             t.write({at + i: held})
             t.call(standing(0, s, 60, [(1, 2)], proportion), 18)
         t.write({at + 23: 1})
         t.call(standing(0, s, 60, [(1, 2)], proportion))
         t.call(standing(0, s, 60, [(1, 2)], proportion), 18)
         t.write({at + i: 1000 + i for i in range(1, 24)})
-        t.call(look_up(0, s, 60), 0, 1, sum(1005 + 2 * i for i in range(10)))
+        t.call(look_up(0, s, 60), 0, 3, sum(1005 + 2 * i for i in range(10)))
     t.words()
 
 
@@ -295,8 +292,8 @@ def cells_without_a_kind(t):
         t.call(look_up(f, 2, 60), 5)
     t.call(capability(0, GENERATION))
     t.call(capability(2, LOAD))
-    t.call(look_up(0, 2, 60), 0, 1, 10)
-    t.call(look_up(2, 2, 60), 0, 2, 13)
+    t.call(look_up(0, 2, 60), 0, 3, 10)
+    t.call(look_up(2, 2, 60), 0, 4, 13)
     t.call(standing(0, 2, 60, [(3, 10)], 0), 15)
     t.call(standing(2, 2, 60, [(3, 12)], 0), 18)
     t.words()
@@ -309,6 +306,6 @@ def words_past_n(t):
     t.write({16224 + i: -1 for i in range(0, 50, 7)})
     t.call(standing(0, 0, 335, [(1, 5)]))
     t.call(variation(0, 0, 335, [(1, 6)]))
-    t.call(look_up(0, 0, 335), 0, 2, 6)
+    t.call(look_up(0, 0, 335), 0, 4, 6)
     t.call(total(0, 335), 0, 1, 6)
     t.words()

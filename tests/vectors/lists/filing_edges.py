@@ -23,10 +23,10 @@ def last_minute(t):
     # period 33,333,334 starts 20 minutes on; 33,333,647 is the horizon's last; their slots are 190 and 167
     for period, number in ((33_333_333, 10), (33_333_334, 17), (33_333_335, 17), (33_333_336, 0), (33_333_647, 0), (33_333_648, 10), (40_000_000, 10)):
         t.call(variation(0, 0, period, [(5, 6)]), number)
-    t.call(look_up(0, 0, 33_333_647), 0, 2, 6)
+    t.call(look_up(0, 0, 33_333_647), 0, 4, 6)
     t.call(look_up(0, 0, 33_333_334), 19)
     t.call(standing(0, 0, 33_333_334 % 336, [(5, 7)]))
-    t.call(look_up(0, 0, 33_333_334), 0, 1, 7)
+    t.call(look_up(0, 0, 33_333_334), 0, 3, 7)
     t.call(standing(0, 0, 33_333_334 % 336, [(5, 8)]), 17)
     t.call(standing(0, 0, 33_333_333 % 336, [(5, 8)]))
     t.call(standing(0, 0, 33_333_333 % 336, [(5, 9)]))
@@ -113,8 +113,8 @@ def marks_by_service(t):
             both(t, 0, k, 60 + s, [(1, 2)], 0 if k == s else 9, proportion=proportion)
             if k != s:
                 t.call(standing(0, k, 336, [(1, 2)], proportion), 9)
-            t.call(look_up(0, k, 60 + s), *((0, 2, 2) if k == s else (19,)))
-    t.call(look_up(0, 0, 60), 0, 2, 2)
+            t.call(look_up(0, k, 60 + s), *((0, 4, 2) if k == s else (19,)))
+    t.call(look_up(0, 0, 60), 0, 4, 2)
     t.call(capability(1, LOAD))
     for s, number in ((0, 9), (1, 0), (2, 0), (3, 0), (4, 9)):
         both(t, 1, s, 60, [(1, 2)], number)
@@ -132,7 +132,7 @@ def slots_and_periods(t):
         begun, end = now // 30, 48 * (now // 1440 + 7)
         for period, number in ((begun, 10), (begun + 1, None), (end - 1, None), (end, 10)):
             held = period % 336 in (0, 335)
-            t.call(look_up(0, 0, period), *((number,) if number else (0, 1, 2) if held else (19,)))
+            t.call(look_up(0, 0, period), *((number,) if number else (0, 3 if now == 0 else 1, 2) if held else (19,)))
             t.call(total(0, period), *((number,) if number else (0, 1, 2) if held else (0, 0, 0)))
             if number:
                 t.call(variation(0, 0, period, [(1, 3)]), number)
@@ -211,7 +211,7 @@ def prices_rise(t):
                           ([(i if i < 9 else 8, 1) for i in range(10)], 13)):
         both(t, 0, 0, slot, pairs, number)
         slot += 1
-    t.call(look_up(0, 0, 60), 0, 2, 4)
+    t.call(look_up(0, 0, 60), 0, 4, 4)
     t.words()
 
 
@@ -282,7 +282,7 @@ def energy_offer_mended(t):
         t.call(offer(0, 0, 60, good, ramps=(50, 40)), 17 if offer is variation else 0)
         if offer is variation:
             t.call(variation(0, 0, 60, good, 1, ramps=(50, 40)))
-            t.call(look_up(0, 0, 60), 0, 2, 800)
+            t.call(look_up(0, 0, 60), 0, 4, 800)
         else:
             t.call(standing(0, 0, 60, good, ramps=(50, 40)), 17)
             t.call(clock(30 * 60))

@@ -4,7 +4,7 @@ Each line is written with the number that the papers give it, and each look-up a
 author read them. make.py compares them with the answers.
 """
 
-LEVEL = 2  # document 02's requests up to K2
+LEVEL = 3  # document 02's requests up to K3
 
 LIMITS = (-450000, 450000, 400000, 400001, 400002, 400003)
 
@@ -26,6 +26,10 @@ def block(f):
 
 def cell(F, S, f, s, h, slot):
     return 64 + 32 * F + 24 * (((f * S + s) * 2 + h) * 336 + slot)
+
+
+# Facility 0's cells for energy and slot 100 in a book of one facility and one service
+STANDING_AT, VARIATION_AT = cell(1, 1, 0, 0, 0, 100), cell(1, 1, 0, 0, 1, 100)
 
 
 # ---- records ----
@@ -141,8 +145,10 @@ class Script:
     def open(self, F, S, limits=LIMITS, past=0, number=0):
         self._line(f'open {LEVEL} {F} {S} {" ".join(map(str, limits))} {past} =', str(number))
 
-    def call(self, r, number=0, first=0, sum=0):
-        self._line(f'call {r.hex() or "-"} =', rf'{number} {first}( -?\d+){{23}} {sum}')
+    def call(self, r, number=0, first=0, sum=0, ramps=None):
+        """`first` is word 0, and `ramps` words 2 and 3 where they are stated."""
+        words_2_and_3 = r'( -?\d+){2}' if ramps is None else ' {} {}'.format(*ramps)
+        self._line(f'call {r.hex() or "-"} =', rf'{number} {first} -?\d+{words_2_and_3}( -?\d+){{20}} {sum}')
 
     def test(self, r, F, S, number):
         self._line(f'test {r.hex() or "-"} {F} {S} =', str(number))

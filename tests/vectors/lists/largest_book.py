@@ -20,7 +20,7 @@ def largest_book(t):
             for slot in (0, 335):
                 t.call(standing(f, s, slot, [(1, 10 + f + s)], 1 if s == 1 else 0))
             t.call(variation(f, s, 335, [(2, 100 + f + s)], 0, 1 if s == 1 else 0))
-            t.call(look_up(f, s, 335), 0, 2, 100 + f + s)
+            t.call(look_up(f, s, 335), 0, 4, 100 + f + s)
     t.call(standing(64, 0, 335), 3)
     t.call(look_up(64, 4, 335), 3)
     t.call(outage(64, 0, 1), 3)

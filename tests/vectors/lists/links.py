@@ -66,7 +66,7 @@ def one_service_book(t):
     for s in range(1, 5):
         both(t, 0, s, 60, [(1, 5)], 3, proportion=filler(s))
         t.call(look_up(0, s, 60), 3)
-    t.call(look_up(0, 0, 60), 0, 2, 5)
+    t.call(look_up(0, 0, 60), 0, 4, 5)
     t.words()
 
 
@@ -139,7 +139,7 @@ def energy_of_a_link(t):
     t.open(1, 5)
     t.call(capability(0, LINK))
     both(t, 0, 0, 60, {i: (100 * i - 300, 80) for i in range(10)}, 0, ramps=(50, 40))
-    t.call(look_up(0, 0, 60), 0, 2, 800)
+    t.call(look_up(0, 0, 60), 0, 4, 800)
     t.call(standing(0, 0, 60, {i: (100 * i - 300, 80) for i in range(10)}, ramps=(50, 40)), 18)
     for slot in (-1, 336):
         t.call(standing(0, 0, slot, [(1, 5)]), 10)
@@ -203,7 +203,7 @@ def link_offer_mended(t):
     t.call(variation(0, 0, 60, high, 2, ramps=(50, 40)), 16)
     t.call(variation(0, 0, 60, good, 2, ramps=(50, 40)), 17)
     t.call(variation(0, 0, 60, good, 5, ramps=(50, 40)))
-    t.call(look_up(0, 0, 60), 0, 2, 800)
+    t.call(look_up(0, 0, 60), 0, 4, 800)
     t.words()
 
 
@@ -217,7 +217,7 @@ def gate_at_65_minutes_of_a_link(t):
     for reason in range(7):
         t.call(variation(0, 0, 100, [(1, 5 + reason)], reason))
     t.call(variation(0, 0, 100, [(1, 5)], 7), 11)
-    t.call(look_up(0, 0, 100), 0, 2, 11)
+    t.call(look_up(0, 0, 100), 0, 4, 11)
     t.call(clock(2936))
     for reason in range(7):
         t.call(variation(0, 0, 100, [(1, 12)], reason), 17)
@@ -245,7 +245,7 @@ def reasons_by_kind_with_a_link(t):
                 t.call(outage(f, 30 * period - 30, 1), 7 if f == 0 else 0)
                 holds = {0: False, 1: f == 1, 2: f == 1, 3: s == 0 and quantity < 50, 4: quantity > 50, 5: quantity > 50, 6: f == 2}[reason]
                 t.call(variation(f, s, period, [(1, quantity)], reason, filler(s)), 0 if holds else 17)
-                t.call(look_up(f, s, period), 0, 2, quantity if holds else 50)
+                t.call(look_up(f, s, period), 0, *((4, quantity) if holds else (2, 50)))
     t.words()
 
 
@@ -285,7 +285,7 @@ def prices_of_a_link(t):
     t.call(clock(60))
     for f, (reason, pairs, number) in enumerate(tries):
         t.call(variation(f, 0, 4, pairs, reason), number)
-        t.call(look_up(f, 0, 4), 0, *((2, sum(quantity for _, quantity in pairs)) if number == 0 else (1, 700)))
+        t.call(look_up(f, 0, 4), 0, *((4, sum(quantity for _, quantity in pairs)) if number == 0 else (1, 700)))
     t.words()
 
 
@@ -298,7 +298,7 @@ def take_backs_of_a_link(t):
     for f in (0, 1):
         t.call(variation(f, 0, 60, [(1, 20)]))
         t.call(variation(f, 0, 60, []))
-        t.call(look_up(f, 0, 60), *((19,) if f else (0, 1, 50)))
+        t.call(look_up(f, 0, 60), *((19,) if f else (0, 3, 50)))
     for kind in (3, 4, 5):
         t.call(notice(kind, 0, 1000))
     for step, (varied, numbers) in enumerate(((20, {0: 17, 1: 17, 2: 17, 3: 17, 6: 17, 4: 0}), (20, {5: 0}), (50, {3: 17, 4: 17, 5: 17, 1: 17}), (80, {4: 17, 5: 17, 6: 17, 3: 0}))):
@@ -346,11 +346,11 @@ def look_ups_of_a_link(t):
         t.call(look_up(0, s, 0), 10)
         t.call(look_up(0, s, 336), 10)
     t.call(standing(0, 0, 60, {2: (-7, 11), 9: (8, 12)}, ramps=(3, 4)))
-    t.call(look_up(0, 0, 60), 0, 1, 23)
+    t.call(look_up(0, 0, 60), 0, 3, 23)
     t.call(variation(0, 0, 60, [(9, 13)], ramps=(5, 6)))
-    t.call(look_up(0, 0, 60), 0, 2, 13)
+    t.call(look_up(0, 0, 60), 0, 4, 13)
     t.call(capability(0, with_words(LINK, {12: 0})))
-    t.call(look_up(0, 0, 60), 0, 2, 13)
+    t.call(look_up(0, 0, 60), 0, 4, 13)
     t.call(variation(0, 0, 60, [(9, 14)]), 9)
     t.words()
 
@@ -383,7 +383,7 @@ def links_alone(t):
         t.call(standing(f, 0, 335, [(f, 1 + f)]))
         t.call(outage(f, 0, 1), 7)
     t.call(total(0, 335), 0, 64, 2080)
-    t.call(look_up(63, 0, 335), 0, 1, 64)
+    t.call(look_up(63, 0, 335), 0, 3, 64)
     t.words()
 
 
@@ -415,8 +415,8 @@ def link_cells_damaged(t):
     for s in (1, 2, 3, 4):
         at, varied = cell(2, 5, 0, s, 0, 60), cell(2, 5, 0, s, 1, 61)
         t.write({at: 1, at + 1: 77, at + 2: -3, at + 3: 4, **pairs_at(at, [(5, 10 + s), (4, -3)]), varied: 62, **pairs_at(varied, [(MOST, MOST), (LEAST, 1)])})
-        t.call(look_up(0, s, 60), 0, 1, 7 + s)
-        t.call(look_up(0, s, 61), 0, 2, 1 << 31)
+        t.call(look_up(0, s, 60), 0, 3, 7 + s)
+        t.call(look_up(0, s, 61), 0, 4, 1 << 31)
         t.call(look_up(0, s, 62), 19)
         t.call(total(s, 60), 0, 1, 7 + s)
         t.call(total(s, 61), 0, 1, 1 << 31)
@@ -509,7 +509,7 @@ def load_marks_damaged(t):
 
 
 def link_maxima_damaged(t):
-    """Maxima of a link that no call leaves: below 0 its blank offers draw 14 or 16; past any total 999,990 tenths pass."""
+    """Maxima of a link that no call leaves: below 0 its blank offers draw 14 or 16; past any total 999,990 tenths pass, and ramps of 9,999."""
     t.open(1, 1)
     t.call(capability(0, LINK))
     for word, number in ((1, 16), (2, 16), (7, 14), (8, 14)):
@@ -517,6 +517,8 @@ def link_maxima_damaged(t):
             t.write({block(0) + word: value})
             both(t, 0, 0, 60, [], number)
         t.write({block(0) + word: MOST})
-    both(t, 0, 0, 60, [(i, 99999) for i in range(10)], 0, ramps=(MOST, MOST))
-    t.call(look_up(0, 0, 60), 0, 2, 999_990)
+    for ramps in ((MOST, MOST), (10_000, 0), (0, 10_000)):
+        both(t, 0, 0, 60, [], 14, ramps=ramps)
+    both(t, 0, 0, 60, [(i, 99999) for i in range(10)], 0, ramps=(9999, 9999))
+    t.call(look_up(0, 0, 60), 0, 4, 999_990)
     t.words()

@@ -91,12 +91,12 @@ def kinds_only_a_damaged_book_holds(t):
         t.call(total(0, 100), 0, 1, 70)
     t.words()
     t.write({block(0): 1})
-    t.call(look_up(0, 0, 100), 0, 1, 70)
+    t.call(look_up(0, 0, 100), 0, 3, 70)
     for kind in (0, 4, -1, MOST):
         t.write({block(1): kind})
         _four(t, 1, s=1)
         t.call(total(1, 100), 0, 1, 7)
-        t.call(look_up(0, 0, 100), 0, 1, 70)
+        t.call(look_up(0, 0, 100), 0, 3, 70)
     t.words()
 
 
@@ -132,7 +132,7 @@ def kind_turned_by_the_host(t):
     t.call(variation(0, 0, 5, [(1, 6)], 6), 17)
     t.call(variation(0, 0, 5, [(1, 6)], 2))
     t.call(standing(0, 1, 7, [(1, 5)]), 15)
-    t.call(look_up(0, 0, 5), 0, 2, 6)
+    t.call(look_up(0, 0, 5), 0, 4, 6)
     t.words()
 
 

@@ -14,7 +14,7 @@ def _generation(t, s):
         for proportion in TRIED:
             t.call(standing(0, s, slot, [(1, 5)], proportion), 0 if 1 <= proportion <= maximum else 15)
             slot += 1
-    t.call(look_up(0, s, slot - 4), 0, 1, 5)
+    t.call(look_up(0, s, slot - 4), 0, 3, 5)
     t.call(look_up(0, s, slot - 3), 19)
     for period, proportion in ((48, 0), (49, 1), (50, 1000), (51, 1001)):
         t.call(variation(0, s, period, [(1, 6)], 0, proportion), 0 if 1 <= proportion <= 1000 else 15)
@@ -45,7 +45,7 @@ def load_proportion(t):
             for i, proportion in enumerate((0, 1, 501, 1001, 65535)):
                 period = 50 + 10 * (maximum // 500) + i
                 t.call((standing if i % 2 else variation)(0, s, period, [(1, 5)], proportion=proportion))
-                t.call(look_up(0, s, period), 0, 1 if i % 2 else 2, 5)
+                t.call(look_up(0, s, period), 0, 3 if i % 2 else 4, 5)
     t.words()
 
 
@@ -74,7 +74,7 @@ def blank_offer_needs_a_proportion(t):
         t.call(variation(0, s, 60, [], 0, 1))
         t.call(look_up(0, s, 60), 19)
         t.call(standing(0, s, 60, [], 1))
-        t.call(look_up(0, s, 60), 0, 1, 0)
+        t.call(look_up(0, s, 60), 0, 3, 0)
         t.call(total(s, 60), 0, 1, 0)
     t.words()
 
@@ -97,7 +97,7 @@ def proportion_among_the_rest(t):
     t.call(variation(0, 1, 60, [(4, 301), (0, 0), (5, 4)], 6, 500), 16)
     t.call(variation(0, 1, 60, [(4, 296), (0, 0), (5, 4)], 6, 500), 17)
     t.call(variation(0, 1, 60, [(4, 296), (0, 0), (5, 4)], 1, 500))
-    t.call(look_up(0, 1, 60), 0, 2, 300)
+    t.call(look_up(0, 1, 60), 0, 4, 300)
     t.call(standing(0, 1, 60, [(4, 301)], 501), 15)
     t.call(standing(0, 1, 60, [(4, 301)], 500), 16)
     t.call(standing(0, 1, 60, [(4, 300)], 500))
@@ -133,14 +133,14 @@ def maximum_lowered(t):
     t.call(standing(0, 2, 60, [(1, 5)], 600))
     t.call(variation(0, 2, 61, [(1, 5)], 0, 600))
     t.call(capability(0, with_words(GENERATION, {10: 599})))
-    t.call(look_up(0, 2, 60), 0, 1, 5)
-    t.call(look_up(0, 2, 61), 0, 2, 5)
+    t.call(look_up(0, 2, 60), 0, 3, 5)
+    t.call(look_up(0, 2, 61), 0, 4, 5)
     t.call(standing(0, 2, 60, [(1, 5)], 600), 15)
     t.call(variation(0, 2, 61, [(1, 5)], 0, 600), 15)
     t.call(standing(0, 2, 60, [(1, 5)], 599))
     t.call(capability(0, with_words(GENERATION, {10: 0})))
     t.call(standing(0, 2, 60, [(1, 5)], 1), 15)
-    t.call(look_up(0, 2, 60), 0, 1, 5)
+    t.call(look_up(0, 2, 60), 0, 3, 5)
     t.words()
 
 
@@ -169,7 +169,7 @@ def proportion_inside_the_gate(t):
     t.call(variation(0, 1, 60, [(1, 5)], 0, 400), 17)
     t.call(variation(0, 1, 60, [(1, 5)], 1, 501), 15)
     t.call(variation(0, 1, 60, [(1, 5)], 1, 500))
-    t.call(look_up(0, 1, 60), 0, 2, 5)
+    t.call(look_up(0, 1, 60), 0, 4, 5)
     t.call(variation(1, 1, 60, [(1, 5)], 1, 400), 17)
     t.call(variation(1, 1, 60, [(1, 5)], 6, 400), 17)
     t.call(notice(4, 60, 60))

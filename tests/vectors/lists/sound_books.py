@@ -28,8 +28,8 @@ def _over(t, held):
 def worked_run(t):
     """Document 01's nine records in the program's book, and the words after each."""
     t.open(1, 1, PROGRAM_LIMITS)
-    for r, answer in ((capability(0, [1, 1300, 800] + [0] * 9 + [1]), ()), (standing(0, 0, 4, [(4000, 500), (5000, 200)]), ()), (look_up(0, 0, 4), (0, 1, 700)),
-                      (variation(0, 0, 4, [(4000, 300)]), ()), (look_up(0, 0, 4), (0, 2, 300)), (total(0, 4), (0, 1, 300)), (look_up(0, 0, 340), (10,)),
+    for r, answer in ((capability(0, [1, 1300, 800] + [0] * 9 + [1]), ()), (standing(0, 0, 4, [(4000, 500), (5000, 200)]), ()), (look_up(0, 0, 4), (0, 3, 700)),
+                      (variation(0, 0, 4, [(4000, 300)]), ()), (look_up(0, 0, 4), (0, 4, 300)), (total(0, 4), (0, 1, 300)), (look_up(0, 0, 340), (10,)),
                       (clock(1440), ()), (look_up(0, 0, 340), (0, 1, 700))):
         t.call(r, *answer)
         t.words()
@@ -63,7 +63,7 @@ def slot_a_week_later(t):
     for s in (0, 3):
         t.call(standing(0, s, 4, [(4000, 200)], filler(s)))
         t.call(variation(0, s, 4, [(4000, 300)], 0, filler(s)))
-        t.call(look_up(0, s, 4), 0, 2, 300)
+        t.call(look_up(0, s, 4), 0, 4, 300)
         t.call(look_up(0, s, 340), 10)
     now = 0
     for week in range(1, 5):
@@ -75,7 +75,7 @@ def slot_a_week_later(t):
             t.call(look_up(0, s, period), 0, 1, 200)
             t.call(total(s, period), 0, 1, 200)
             t.call(variation(0, s, period, [(4000, 200 + week)], 0, filler(s)))
-            t.call(look_up(0, s, period), 0, 2, 200 + week)
+            t.call(look_up(0, s, period), 0, 4, 200 + week)
             t.call(total(s, period), 0, 1, 200 + week)
             t.call(look_up(0, s, period + 336), 10)
         t.words()
@@ -86,7 +86,7 @@ def slot_a_week_later_without_standing(t):
     t.open(1, 1)
     t.call(capability(0, GENERATION))
     t.call(variation(0, 0, 335, [(1, 9)]))
-    t.call(look_up(0, 0, 335), 0, 2, 9)
+    t.call(look_up(0, 0, 335), 0, 4, 9)
     t.call(clock(30 * 335 - 1))
     t.call(look_up(0, 0, 335), 0, 2, 9)
     t.call(look_up(0, 0, 671), 10)
@@ -96,7 +96,7 @@ def slot_a_week_later_without_standing(t):
     t.call(look_up(0, 0, 671), 19)
     t.call(total(0, 671))
     t.call(variation(0, 0, 671, [(1, 8)]))
-    t.call(look_up(0, 0, 671), 0, 2, 8)
+    t.call(look_up(0, 0, 671), 0, 4, 8)
     t.words()
 
 
@@ -105,16 +105,16 @@ def standing_and_variation_apart(t):
     t.open(2, 5)
     t.call(capability(0, GENERATION))
     t.call(variation(0, 0, 60, [(1, 5)]))
-    t.call(look_up(0, 0, 60), 0, 2, 5)
+    t.call(look_up(0, 0, 60), 0, 4, 5)
     t.call(standing(0, 0, 60, [(1, 6)]))
-    t.call(look_up(0, 0, 60), 0, 2, 5)
+    t.call(look_up(0, 0, 60), 0, 4, 5)
     t.call(variation(0, 0, 60, [(2, 7)]))
     t.call(variation(0, 0, 60))
-    t.call(look_up(0, 0, 60), 0, 1, 6)
+    t.call(look_up(0, 0, 60), 0, 3, 6)
     t.call(total(0, 60), 0, 1, 6)
     t.call(variation(0, 0, 60, [(2, 1)]))
     t.call(standing(0, 0, 60, [(1, 8)]))
-    t.call(look_up(0, 0, 60), 0, 2, 1)
+    t.call(look_up(0, 0, 60), 0, 4, 1)
     t.call(clock(1440))
     t.call(look_up(0, 0, 60), 0, 2, 1)
     t.call(clock(3600))
@@ -334,7 +334,7 @@ def an_earlier_variation_is_the_old(t):
     t.call(variation(0, 0, 100, [(9, 1)], 4), 17)
     t.call(variation(0, 0, 100, [(2, 1)], 1))
     t.call(variation(0, 0, 100, [(2, 1), (9, 1)], 4))
-    t.call(look_up(0, 0, 100), 0, 2, 2)
+    t.call(look_up(0, 0, 100), 0, 4, 2)
     t.words()
 
 
@@ -398,7 +398,7 @@ def outage_kept_over_a_capability(t):
     t.words()
     t.call(variation(0, 0, 100, [(1, 500)], 2))
     t.call(capability(0, with_words(GENERATION, {1: 10, 12: 0})))
-    t.call(look_up(0, 0, 100), 0, 2, 500)
+    t.call(look_up(0, 0, 100), 0, 4, 500)
     t.call(total(0, 100), 0, 1, 500)
     t.call(variation(0, 0, 100, [(1, 10)], 2), 9)
     t.call(capability(0, with_words(GENERATION, {1: 10})))
@@ -438,8 +438,8 @@ def nothing_in_force(t):
         t.call(capability(f, GENERATION))
     t.call(standing(0, 2, 60, [(1, 1)], 1))
     t.call(variation(1, 3, 61, [(1, 1)], 0, 1))
-    for f, s, period, answer in ((0, 2, 60, (0, 1, 1)), (1, 2, 60, (19,)), (0, 1, 60, (19,)), (0, 3, 60, (19,)), (0, 2, 59, (19,)), (0, 2, 61, (19,)),
-                                 (1, 3, 61, (0, 2, 1)), (1, 3, 60, (19,)), (1, 3, 62, (19,)), (0, 3, 61, (19,)), (1, 4, 61, (19,))):
+    for f, s, period, answer in ((0, 2, 60, (0, 3, 1)), (1, 2, 60, (19,)), (0, 1, 60, (19,)), (0, 3, 60, (19,)), (0, 2, 59, (19,)), (0, 2, 61, (19,)),
+                                 (1, 3, 61, (0, 4, 1)), (1, 3, 60, (19,)), (1, 3, 62, (19,)), (0, 3, 61, (19,)), (1, 4, 61, (19,))):
         t.call(look_up(f, s, period), *answer)
     t.call(clock(2 * 1440))
     t.call(look_up(1, 3, 61 + 336), 19)

@@ -1,9 +1,6 @@
 """Variations taken back: a variation of blanks alone, with the gate open and inside it, over each thing that its cell and the standing cell may hold."""
-from .form import (GENERATION, LEAST, LOAD, MOST, block, capability, cell, clock, filler, look_up, notice, outage, pairs_at, standing, total, variation,
-                   with_bytes, with_words, withdrawal)
-
-# Facility 0's cells for energy and slot 100 in a book of one facility and one service
-STANDING_AT, VARIATION_AT = cell(1, 1, 0, 0, 0, 100), cell(1, 1, 0, 0, 1, 100)
+from .form import (GENERATION, LEAST, LOAD, MOST, STANDING_AT, VARIATION_AT, block, capability, cell, clock, filler, look_up, notice, outage, pairs_at,
+                   standing, total, variation, with_bytes, with_words, withdrawal)
 
 
 def _back(f, s, period, reason=0):
@@ -22,9 +19,9 @@ def back_to_the_standing_offer(t):
         t.call(standing(f, s, 60, [(4, 50)], filler(s)))
         t.words(f'before-{f}-{s}')
         t.call(variation(f, s, 60, [(4, 20), (5, 40)], 0, filler(s)))
-        t.call(look_up(f, s, 60), 0, 2, 60)
+        t.call(look_up(f, s, 60), 0, 4, 60)
         t.call(_back(f, s, 60))
-        t.call(look_up(f, s, 60), 0, 1, 50)
+        t.call(look_up(f, s, 60), 0, 3, 50)
         t.words(f'before-{f}-{s}')
     t.call(total(1, 60), 0, 2, 100)
 
@@ -58,7 +55,7 @@ def nothing_to_take_back(t):
         for reason in (0, 0, 1, 2, 3, 4, 5, 6):
             t.call(_back(f, 0, 60, reason))
         t.call(_back(f, 0, 60, 7), 11)
-        t.call(look_up(f, 0, 60), *((0, 1, 5) if f else (19,)))
+        t.call(look_up(f, 0, 60), *((0, 3, 5) if f else (19,)))
     t.call(total(0, 60), 0, 1, 5)
     t.words('nothing to take back')
 
@@ -89,9 +86,9 @@ def the_newest_alone_counts(t):
         t.call(variation(0, 0, 60, [(1, 5)]))
         t.call(variation(0, 0, 60, [(1, 6)]))
         t.call(_back(0, 0, 60))
-        t.call(look_up(0, 0, 60), *((0, 1, 9) if standing_filed else (19,)))
+        t.call(look_up(0, 0, 60), *((0, 3, 9) if standing_filed else (19,)))
         t.call(variation(0, 0, 60, [(2, 7)]))
-        t.call(look_up(0, 0, 60), 0, 2, 7)
+        t.call(look_up(0, 0, 60), 0, 4, 7)
         t.call(_back(0, 0, 60))
         t.call(_back(0, 0, 60))
         t.call(total(0, 60), *((0, 1, 9) if standing_filed else ()))
@@ -108,14 +105,14 @@ def only_that_period(t):
         t.call(variation(f, s, period, [(1, 5)], 0, 1))
     t.call(_back(1, 2, 60))
     for f, s, period in places:
-        t.call(look_up(f, s, period), *((19,) if (f, s, period) == (1, 2, 60) else (0, 2, 5)))
+        t.call(look_up(f, s, period), *((19,) if (f, s, period) == (1, 2, 60) else (0, 4, 5)))
     t.call(clock(1440))
     for s in (0, 4):
         for period in (334, 335, 336, 337):
             t.call(variation(2, s, period, [(1, 5)]))
         t.call(_back(2, s, 336))
         t.call(_back(2, s, 335))
-        for period, answer in ((334, (0, 2, 5)), (335, (19,)), (336, (19,)), (337, (0, 2, 5))):
+        for period, answer in ((334, (0, 4, 5)), (335, (19,)), (336, (19,)), (337, (0, 4, 5))):
             t.call(look_up(2, s, period), *answer)
     t.words()
 
@@ -128,11 +125,11 @@ def the_least_that_is_no_take_back(t):
         t.call(standing(0, s, 60, [(1, 9)], filler(s)))
         for place in (0, 9 if s == 0 else 4):
             t.call(variation(0, s, 60, {place: (0, 1)}, 0, filler(s)))
-            t.call(look_up(0, s, 60), 0, 2, 1)
+            t.call(look_up(0, s, 60), 0, 4, 1)
             t.call(_back(0, s, 60))
-            t.call(look_up(0, s, 60), 0, 1, 9)
+            t.call(look_up(0, s, 60), 0, 3, 9)
         t.call(standing(0, s, 60, [], filler(s)))
-        t.call(look_up(0, s, 60), 0, 1, 0)
+        t.call(look_up(0, s, 60), 0, 3, 0)
         t.call(total(s, 60), 0, 1, 0)
     t.words()
 
@@ -148,7 +145,7 @@ def back_to_a_standing_offer_of_blanks(t):
         t.call(variation(f, 0, 60, [(1, 5)]))
     for f in (0, 1):
         t.call(_back(f, 0, 60))
-        t.call(look_up(f, 0, 60), *((19,) if f else (0, 1, 0)))
+        t.call(look_up(f, 0, 60), *((19,) if f else (0, 3, 0)))
     t.call(total(0, 60), 0, 1, 0)
     for f in (0, 1):
         t.call(variation(f, 0, 60, [(1, 5)]))
@@ -212,7 +209,7 @@ def after_the_capability_shrank(t):
     t.call(capability(0, with_words(GENERATION, {12: 0, 13: 0, 14: 0, 15: 0, 16: 0})))
     for s in range(5):
         t.call(_back(0, s, 60), 9)
-        t.call(look_up(0, s, 60), 0, 2, 50)
+        t.call(look_up(0, s, 60), 0, 4, 50)
     t.call(capability(0, with_words(GENERATION, {1: 0, 2: 0, 3: 0, 4: 0, 5: 0, 6: 0, 7: 10, 8: 10, 9: 10, 10: 10, 11: 10})))
     t.call(variation(0, 0, 60, ramps=(11, 0)), 14)
     t.call(variation(0, 0, 60, ramps=(0, 11)), 14)
@@ -367,8 +364,8 @@ def then_another_variation(t):
     t.call(_back(0, 0, 100, 1), 17)
     t.call(_back(1, 0, 100, 1))
     t.call(variation(1, 0, 100, [(9000, 300)], 1))
-    t.call(look_up(0, 0, 100), 0, 2, 601)
-    t.call(look_up(1, 0, 100), 0, 2, 300)
+    t.call(look_up(0, 0, 100), 0, 4, 601)
+    t.call(look_up(1, 0, 100), 0, 4, 300)
     t.words()
 
 
@@ -442,7 +439,7 @@ def blank_variation_held(t):
     t.words('nothing varied')
     t.write({VARIATION_AT: 101})
     t.call(variation(0, 0, 100, [(9000, 1)], 1))
-    t.call(look_up(0, 0, 100), 0, 2, 1)
+    t.call(look_up(0, 0, 100), 0, 4, 1)
     t.write({VARIATION_AT: 101, STANDING_AT: 0, **pairs_at(VARIATION_AT, [])})
     for reason in (3, 4, 5):
         t.call(_back(0, 0, 100, reason), 17)
@@ -561,7 +558,7 @@ def a_period_yet_to_come_loses_the_cell(t):
     t.call(capability(0, GENERATION))
     t.call(standing(0, 0, 100, [(1, 9)]))
     t.write({VARIATION_AT: 437, VARIATION_AT + 5: 8})
-    t.call(look_up(0, 0, 100), 0, 1, 9)
+    t.call(look_up(0, 0, 100), 0, 3, 9)
     t.call(_back(0, 0, 100))
     t.call(clock(4320))
     t.call(look_up(0, 0, 436), 0, 1, 9)
@@ -579,7 +576,7 @@ def maxima_below_nothing(t):
             t.write({block(0) + word: value})
             t.call(_back(0, s, 60), number)
         t.write({block(0) + word: GENERATION[word]})
-        t.call(look_up(0, s, 60), 0, 2, 5)
+        t.call(look_up(0, s, 60), 0, 4, 5)
     for s in range(5):
         t.call(_back(0, s, 60))
         t.call(look_up(0, s, 60), 19)

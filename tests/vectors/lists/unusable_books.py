@@ -3,7 +3,7 @@ from .form import (GENERATION, LEAST, LOAD, MARK, MOST, capability, clock, look_
                    with_bytes, withdrawal, words_needed)
 
 # The head of a book for one facility and energy alone
-HEAD = {0: MARK, 1: 1, 2: 1, 3: 1, 4: 0, 5: 1, 6: 0, 7: 1, 8: 0, 9: 1, 10: 0, 11: -5, 12: 5, 13: 5, 14: 5, 15: 5, 16: 5}
+HEAD = {0: MARK, 1: 2, 2: 1, 3: 1, 4: 0, 5: 1, 6: 0, 7: 1, 8: 0, 9: 1, 10: 0, 11: -5, 12: 5, 13: 5, 14: 5, 15: 5, 16: 5}
 
 
 def _unusable(t, whole=False):
@@ -47,9 +47,9 @@ def mark_wrong(t):
 
 
 def version_wrong(t):
-    """Head word 1 is another than 1."""
+    """Head word 1 is another than 2, as in a book of version 1; put right, the same words answer."""
     _start(t)
-    _head_word(t, 1, 1, (0, 2, 3, -1, 257, 65537, 1 << 24, LEAST, MOST))
+    _head_word(t, 1, 2, (1, 0, 3, -1, -2, 258, 65538, 2 << 24, LEAST, MOST))
 
 
 def facilities_wrong(t):
@@ -82,7 +82,7 @@ def clock_first(t):
     t.write({4: 0})
     t.call(total(0, 0), 10)
     t.call(total(0, 1))
-    t.call(look_up(0, 0, 100), 0, 1, 70)
+    t.call(look_up(0, 0, 100), 0, 3, 70)
     t.call(clock(0))
     t.words()
 
@@ -105,11 +105,11 @@ def clock_last(t):
     t.call(variation(0, 0, 33_333_335, [(1, 1)]), 17)
     t.call(variation(0, 0, 33_333_336, [(1, 1)]))
     t.call(variation(0, 0, 33_333_647, [(1, 2)]))
-    t.call(look_up(0, 0, 33_333_336), 0, 2, 1)
-    t.call(look_up(0, 0, 33_333_647), 0, 2, 2)
+    t.call(look_up(0, 0, 33_333_336), 0, 4, 1)
+    t.call(look_up(0, 0, 33_333_647), 0, 4, 2)
     t.call(outage(0, 1_000_000_000, 3))
     t.call(variation(0, 0, 33_333_334, [(1, 1)], 2))
-    t.call(look_up(0, 0, 33_333_334), 0, 2, 1)
+    t.call(look_up(0, 0, 33_333_334), 0, 4, 1)
     t.words()
 
 
@@ -123,7 +123,7 @@ def head_for_fewer_facilities(t):
     # the cells of a book of one start where the block of facility 1 was: its 24 words and 8 more come before the first cell
     t.call(look_up(0, 0, 100), 19)
     t.call(standing(0, 0, 100, [(5000, 71)]))
-    t.call(look_up(0, 0, 100), 0, 1, 71)
+    t.call(look_up(0, 0, 100), 0, 3, 71)
     t.words()
     t.write({2: 2})
     t.call(look_up(0, 0, 100), 0, 1, 70)
@@ -152,7 +152,7 @@ def head_for_more_facilities(t):
     t.call(look_up(1, 0, 100), 19)
     t.call(standing(1, 0, 335, [(1, 2)]))
     t.call(variation(1, 0, 335, [(1, 3)]))
-    t.call(look_up(1, 0, 335), 0, 2, 3)
+    t.call(look_up(1, 0, 335), 0, 4, 3)
     t.words()
     t.write({2: 1})
     t.call(look_up(1, 0, 100), 3)
@@ -183,7 +183,7 @@ def words_just_enough(t):
     t.call(capability(0, GENERATION))
     t.call(look_up(0, 0, 100), 19)
     t.call(standing(0, 0, 100, [(4, 70)]))
-    t.call(look_up(0, 0, 100), 0, 1, 70)
+    t.call(look_up(0, 0, 100), 0, 3, 70)
     t.words()
 
 
@@ -217,10 +217,10 @@ def one_ahead_of_all(t):
              (standing(0, 1, 336), 10), (total(0, 0), 10), (standing(0, 0, 4, [(4000, 100_000)]), 11), (standing(0, 0, 4, [(1, 0)]), 12),
              (standing(0, 0, 4, [(2, 1), (1, 1)]), 13), (standing(0, 0, 4, [(2, 1)], ramps=(51, 0)), 14), (standing(0, 1, 4, [(2, 1)]), 15),
              (standing(0, 0, 4, [(2, 801)]), 16), (variation(0, 0, 2, [(2, 1)]), 17), (look_up(0, 0, 4), 19)]
-    t.write({1: 2})
+    t.write({1: 1})
     for r, number in tries:
         t.call(r, 1)
-    t.write({1: 1})
+    t.write({1: 2})
     for r, number in tries:
         t.call(r, number)
     t.call(standing(0, 0, 4, [(2, 1)]))

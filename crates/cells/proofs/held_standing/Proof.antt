@@ -8,7 +8,7 @@ use Rattle.book_rules.specs.Words.{cell-place, standing-half, standing-stamp}
 use Rattle.book_rules.specs.Book.{book-view}
 use borrow.Author.Needs.{needs}
 use Rattle.book_rules.specs.Force.{first-of}
-use Rattle.cells.specs.Meaning.{meaning, end-of, offer-at}
+use Rattle.cells.specs.Meaning.{meaning, end-of, held-at}
 use Rattle.cells.proofs.Holding.{standing-held}
 use Rattle.cells.proofs.held_standing.Statement.{statement}
 use Rattle.cells.proofs.held_standing.Tie as tie
@@ -31,7 +31,7 @@ tested c = search needs
 
 shown : (c : tie.After-is-stamped)
     → book-view (c .before .before .args .book .now) .standing (c .before .before .args .f) (c .before .before .args .s) (c .before .before .args .slot)
-    ≡ cond (c .is-stamped .result) (some (offer-at (c .before .before .args .book .now) (c .before .cell-place .result))) none
+    ≡ cond (c .is-stamped .result) (some (held-at (c .before .before .args .book .now) (c .before .cell-place .result))) none
 shown c =
     let s = c .before .before in
     let a = s .args in

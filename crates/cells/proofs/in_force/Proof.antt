@@ -9,7 +9,7 @@ use Rattle.book_rules.specs.Words.{cell-place, variation-half, variation-stamp}
 use Rattle.book_rules.specs.Book.{book-view}
 use borrow.Author.Needs.{needs}
 use Rattle.book_rules.specs.Force.{first-of, in-force}
-use Rattle.cells.specs.Meaning.{meaning, end-of, offer-at}
+use Rattle.cells.specs.Meaning.{meaning, end-of, held-at}
 use Rattle.cells.proofs.Holding.{variation-held}
 use Rattle.cells.proofs.in_force.Statement.{statement}
 use Rattle.cells.proofs.in_force.Tie as tie
@@ -38,7 +38,7 @@ tested c = search needs
 
 shown : (c : tie.After-is-stamped)
     → book-view (c .before .before .args .book .now) .variation (c .before .before .args .f) (c .before .before .args .s) (c .before .before .args .period)
-    ≡ cond (c .is-stamped .result) (some (offer-at (c .before .before .args .book .now) (c .before .cell-place .result))) none
+    ≡ cond (c .is-stamped .result) (some (held-at (c .before .before .args .book .now) (c .before .cell-place .result))) none
 shown c =
     let s = c .before .before in
     let a = s .args in

@@ -19,7 +19,7 @@ enum-known-offer c = search needs
 found-at-requires : tie.Need-found-at-requires
 found-at-requires c κs =
     let s = c .before .before .before in
-    standing-inside (s .args .offer) (c .before .offer .given .0 .0) (length (s .args .book .now)) (c .before .offer .given .1) (s .pre)
+    (standing-inside (s .args .offer) (c .before .offer .given .0 .0) (length (s .args .book .now)) (c .before .offer .given .1) (s .pre .0), s .pre .1)
 
 enum-known-offer-2 : tie.Need-enum-known-offer-2
 enum-known-offer-2 c = search needs
@@ -27,7 +27,7 @@ enum-known-offer-2 c = search needs
 found-at-requires-2 : tie.Need-found-at-requires-2
 found-at-requires-2 c κs =
     let s = c .before .before .before in
-    variation-inside (s .args .offer) (c .before .offer2 .given .0 .0) (length (s .args .book .now)) (c .before .offer2 .given .1) (s .pre)
+    (variation-inside (s .args .offer) (c .before .offer2 .given .0 .0) (length (s .args .book .now)) (c .before .offer2 .given .1) (s .pre .0), s .pre .1)
 
 returns : tie.Need-returns
 unfolding meaning found found-words pairs-of sum-of plain

@@ -1,29 +1,41 @@
 use borrow.Author.Needs.{needs}
 use Rattle.cells.proofs.pair_words.Statement.{statement}
 use Rattle.cells.proofs.pair_words.Tie as tie
-use mathlib.Core.Path.{refl, ap, _∙_}
 use native.Mathlib.Omega.{arith}
-use lib.ListN.{length, drop, length-drop}
-use Rattle.cells.proofs.Holding.{tail-lent}
+use lib.ListN.{length-take, length-drop}
+use Rattle.cells.proofs.Holding.{pairs-lent}
 
-offer-words-requires : tie.Need-offer-words-requires
-offer-words-requires c κs = search needs
+add-result : tie.Need-add-result
+add-result c = search needs
+
+add-result-2 : tie.Need-add-result-2
+add-result-2 c = search needs
+
+mul-result : tie.Need-mul-result
+mul-result c = search needs
 
 sub-result : tie.Need-sub-result
-sub-result c = omega (arith, c .offer-words .ensures .1)
+sub-result c = search needs
 
 part-result-start : tie.Need-part-result-start
-part-result-start c = omega (arith, c .offer-words .ensures .1)
+part-result-start c = search needs
 
 part-result-end : tie.Need-part-result-end
 part-result-end c = search needs
 
 returns : tie.Need-returns
 returns c =
-    let x = c .before .offer-words in
-    let e = tail-lent (x .result .now) (length (x .result .now)) refl in
-    (e ∙ ap (drop 3) (x .ensures .0), rw e (simp length-drop (omega (arith, x .ensures .1))))
+    let s = c .before in
+    (pairs-lent (s .args .at) (s .args .book .now), simp (length-take, length-drop) (omega arith))
 
 pub pair-words-spec : {M : Type 1} → statement M
 pair-words-spec =
-    tie.close (tie.spec offer-words-requires sub-result part-result-start part-result-end returns)
+    tie.close
+    (tie.spec
+    add-result
+    add-result-2
+    mul-result
+    sub-result
+    part-result-start
+    part-result-end
+    returns)

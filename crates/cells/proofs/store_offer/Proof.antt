@@ -5,7 +5,9 @@ use mathlib.Core.Path.{_≡_, ap, _∙_}
 use Prim.Native.Nat.{ℕ, _+_}
 use native.Mathlib.Omega.{arith}
 use lib.ListN.{length}
+use Rattle.offer_rules.specs.Offer.{accepted-at}
 use Rattle.book_rules.specs.Words.{put, cell}
+use Rattle.book_rules.proofs.Cells.{length-cell}
 use Rattle.cells.proofs.Putting.{lent-back}
 
 cell-place-requires : tie.Need-cell-place-requires
@@ -33,15 +35,14 @@ same-length : tie.Need-same-length
 same-length c = search needs
 
 returns : tie.Need-returns
-unfolding cell
 returns c =
     let s = c .before .before .before .before in
     let at = c .before .before .before .cell-place in
     let w = s .args .book .now in
     let o = s .args .offer .now in
-    let n : length o ≡ 23 = s .pre .6 in
-    rw (c .before .write-cell .ensures)
-    (lent-back w (cell (s .args .stamp) o) (at .result) (at .result + 24) (omega arith) ∙ ap (λ (a : ℕ). put w a (cell (s .args .stamp) o)) (at .ensures .0))
+    let x = cell (s .args .stamp) (accepted-at (s .args .minute) o) in
+    let n : length x ≡ 24 = length-cell (s .args .stamp) (accepted-at (s .args .minute) o) (s .pre .7) in
+    rw (c .before .write-cell .ensures) (lent-back w x (at .result) (at .result + 24) (omega arith) ∙ ap (λ (a : ℕ). put w a x) (at .ensures .0))
 
 pub store-offer-spec : {M : Type 1} → statement M
 store-offer-spec =

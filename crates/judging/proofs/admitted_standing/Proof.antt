@@ -2,17 +2,16 @@ use borrow.Author.Needs.{needs}
 use Rattle.judging.proofs.admitted_standing.Statement.{statement}
 use Rattle.judging.proofs.admitted_standing.Tie as tie
 use mathlib.Core.Path.{_≡_, sym, _∙_, ap, ap₂}
-use mathlib.Core.List.{List}
-use mathlib.Core.Option.{Option, none, some}
+use mathlib.Core.Bool.{Bool}
+use mathlib.Core.Option.{Option, none}
 use Prim.Native.Nat.{ℕ}
 use native.Mathlib.Omega.{arith}
-use lib.IntN.{ℤ}
 use Rattle.offer_rules.specs.Numbers.{toNat, word}
-use Rattle.offer_rules.specs.Offer.{offer-number}
+use Rattle.offer_rules.specs.Offer.{Held, offer-number}
 use Rattle.units.proofs.Chains.{then-none, then-drawn}
 use Rattle.book_rules.specs.Words.{part, clock-place, limits-place, facility-place}
 use Rattle.book_rules.specs.Force.{first-of}
-use Rattle.book_rules.specs.Refusals.{revision-number, admitted-standing}
+use Rattle.book_rules.specs.Refusals.{over-held, revision-number, admitted-standing}
 use Rattle.book_rules.specs.Book.{book-view}
 use Rattle.cells.specs.Meaning.{meaning}
 use Rattle.judging.proofs.Stages.{nothing-held, one-held}
@@ -63,20 +62,18 @@ returns-2 c =
     let w = s .args .book .now in
     let k = s .args .slot in
     let held = nothing-held w (h .held-standing .result) (book-view w .standing (s .args .f) (s .args .service) k) (found h) (sym (c .before .is-nothing .ensures) ∙ c .if2 .taken) in (
-      sym (then-none _ _ (passed (h .before .before .before .before)) ∙ ap (λ (x : Option (List ℤ)). revision-number (toNat (word w clock-place)) k x (s .args .offer .now)) held),
+      sym (then-none _ _ (passed (h .before .before .before .before)) ∙ ap (λ (x : Option Held). revision-number (toNat (word w clock-place)) k x (s .args .offer .now)) held),
       omega arith,
     )
+
+is-same-offer-requires : tie.Need-is-same-offer-requires
+is-same-offer-requires c κs = search needs
 
 clock-requires : tie.Need-clock-requires
 clock-requires c κs = search needs
 
-offer-of-requires : tie.Need-offer-of-requires
-offer-of-requires c κs = search needs
-
 revision-number-requires : tie.Need-revision-number-requires
-revision-number-requires c κs =
-    let s = c .before .before .before .before .before .before .before .before .before .before in
-    (c .before .clock .ensures .1, s .pre .3, c .offer-of .ensures .1 (sym (c .before .before .before .is-nothing .ensures) ∙ c .before .before .if2 .left), s .pre .4)
+revision-number-requires c κs = search needs
 
 returns-3 : tie.Need-returns-3
 unfolding admitted-standing book-view
@@ -85,9 +82,12 @@ returns-3 c =
     let s = h .before .before .before .before .before .before in
     let w = s .args .book .now in
     let k = s .args .slot in
-    let held = one-held w (h .held-standing .result) (book-view w .standing (s .args .f) (s .args .service) k) (found h) (sym (c .before .before .before .before .is-nothing .ensures) ∙ c .before .before .before .if2 .left) in (
+    let o = s .args .offer .now in
+    let now = toNat (word w clock-place) in
+    let held = one-held w (h .held-standing .result) (book-view w .standing (s .args .f) (s .args .service) k) now k o (found h) (sym (c .before .before .before .before .is-nothing .ensures) ∙ c .before .before .before .if2 .left) in (
       c .revision-number .ensures .0
-          ∙ ap₂ (λ (n : ℕ) (x : Option (List ℤ)). revision-number n k x (s .args .offer .now)) (c .before .before .clock .ensures .0) (ap some (c .before .offer-of .ensures .0) ∙ sym held)
+          ∙ ap₂ (λ (n : ℕ) (same : Bool). over-held n k same) (c .before .clock .ensures .0) (c .before .before .is-same-offer .ensures)
+          ∙ held
           ∙ sym (then-none _ _ (passed (h .before .before .before .before))),
       c .revision-number .ensures .1,
     )
@@ -104,7 +104,7 @@ admitted-standing-spec =
     held-standing-requires
     is-nothing-requires
     returns-2
+    is-same-offer-requires
     clock-requires
-    offer-of-requires
     revision-number-requires
     returns-3)

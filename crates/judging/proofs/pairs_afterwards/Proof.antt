@@ -14,9 +14,6 @@ use Rattle.book_rules.specs.Force.{first-of, pairs-of}
 use Rattle.book_rules.specs.Book.{book-view}
 use Rattle.judging.proofs.Stages.{sent-stands, standing-stands}
 
-is-all-blank-requires : tie.Need-is-all-blank-requires
-is-all-blank-requires c κs = search needs
-
 sub-result : tie.Need-sub-result
 sub-result c = search needs
 
@@ -28,9 +25,9 @@ part-result-end c = search needs
 
 returns : tie.Need-returns
 returns c =
-    let s = c .before .before .before in
+    let s = c .before .before in
     let o = s .args .offer .now in
-    let e : all-blank (pairs o) ≡ false = sym (c .before .before .is-all-blank .ensures) ∙ not-true (c .before .before .is-all-blank .result) (c .before .if1 .taken) in
+    let e : all-blank (pairs o) ≡ false = sym (s .pre .4) ∙ not-true (s .args .blank) (c .before .if1 .taken) in
     (pairs-lent o ∙ sym (sent-stands (book-view (s .args .book .now)) (s .args .f) (s .args .service) (s .args .period) o e), search needs)
 
 facilities-requires : tie.Need-facilities-requires
@@ -44,7 +41,7 @@ wide-requires c κs = search needs
 
 held-standing-requires : tie.Need-held-standing-requires
 held-standing-requires c κs =
-    let s = c .before .before .before .before .before in
+    let s = c .before .before .before .before in
     rw (c .before .before .facilities .ensures, c .before .services .ensures, c .wide .ensures) (s .pre .0 .sized, s .pre .1, s .pre .2, omega arith)
 
 pairs-of-requires : tie.Need-pairs-of-requires
@@ -52,11 +49,10 @@ pairs-of-requires c κs = search needs
 
 returns-2 : tie.Need-returns-2
 returns-2 c =
-    let b = c .before .before .before .before .before .before in
-    let s = b .before in
+    let s = c .before .before .before .before .before .before in
     let w = s .args .book .now in
     let o = s .args .offer .now in
-    let e : all-blank (pairs o) ≡ true = sym (b .is-all-blank .ensures) ∙ not-false (b .is-all-blank .result) (c .before .before .before .before .before .if1 .left) in
+    let e : all-blank (pairs o) ≡ true = sym (s .pre .4) ∙ not-false (s .args .blank) (c .before .before .before .before .before .if1 .left) in
     let held = c .before .held-standing .ensures .0
     ∙ ap (λ (n : ℕ). first-of none (book-view w .standing (s .args .f) n (slot-of (s .args .period)))) (c .before .before .wide .ensures) in
     (c .pairs-of .ensures .0 ∙ ap pairs-of (held ∙ sym (standing-stands (book-view w) (s .args .f) (s .args .service) (s .args .period) o e)), c .pairs-of .ensures .1)
@@ -65,7 +61,6 @@ pub pairs-afterwards-spec : {M : Type 1} → statement M
 pairs-afterwards-spec =
     tie.close
     (tie.spec
-    is-all-blank-requires
     sub-result
     part-result-start
     part-result-end

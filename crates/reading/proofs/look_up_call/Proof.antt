@@ -1,7 +1,7 @@
 use borrow.Author.Needs.{needs, sfits-of}
 use Rattle.reading.proofs.look_up_call.Statement.{statement}
 use Rattle.reading.proofs.look_up_call.Tie as tie
-use mathlib.Core.Path.{_≡_, sym, _∙_, ap}
+use mathlib.Core.Path.{_≡_, sym, _∙_, ap, ap₂}
 use native.Mathlib.Omega.{arith}
 use mir.Val.{toZ, ofZ}
 use mir.Syntax.{w32}
@@ -123,19 +123,22 @@ returns-2 c =
     let e = nothing-number w x (sym (d .is-nothing .ensures) ∙ c .before .if2 .taken) in
     c .plain2 .ensures ∙ refused w (s .args .bytes .now) (s .pre .tested) 19 (drawn d ∙ e) (λ q. omega arith) .0
 
+clock-requires : tie.Need-clock-requires
+clock-requires c κs = search needs
+
 look-up-requires : tie.Need-look-up-requires
 look-up-requires c κs = search needs
 
 returns-3 : tie.Need-returns-3
-unfolding look-up-reply
+unfolding look-up-reply book-view
 returns-3 c =
-    let d = c .before .before in
+    let d = c .before .before .before in
     let s = d .before .before .before .before .before .before .before .before .before .before .before .before .before .before .before in
     let w = s .args .book .now in
     let b = s .args .bytes .now in
     let x = d .before .in-force .result in
-    let e = something-number w x (sym (d .is-nothing .ensures) ∙ c .before .if2 .left) in
-    read w b (s .pre .tested) (answer-of (c .look-up .result)) (drawn d ∙ e) (c .look-up .ensures ∙ ap found (in-force-is (d .before)) ∙ sym (reply-look-up (book-view w) b (s .pre .call-is)))
+    let e = something-number w x (sym (d .is-nothing .ensures) ∙ c .before .before .if2 .left) in
+    read w b (s .pre .tested) (answer-of (c .look-up .result)) (drawn d ∙ e) (c .look-up .ensures ∙ ap₂ found (c .before .clock .ensures .0) (in-force-is (d .before)) ∙ sym (reply-look-up (book-view w) b (s .pre .call-is)))
 
 pub look-up-call-spec : {M : Type 1} → statement M
 look-up-call-spec =
@@ -158,5 +161,6 @@ look-up-call-spec =
     is-nothing-requires
     plain-requires-2
     returns-2
+    clock-requires
     look-up-requires
     returns-3)

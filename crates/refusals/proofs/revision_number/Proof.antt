@@ -1,8 +1,8 @@
--- revision_number: the gate and then the words.
+-- revision_number: the gate, then the duplicate.
 use mathlib.Core.Path.{_∙_}
 use native.Mathlib.Omega.{arith}
-use Rattle.book_rules.specs.Refusals.{revision-number}
 use borrow.Author.Needs.{needs}
+use Rattle.book_rules.specs.Refusals.{over-held}
 use Rattle.refusals.proofs.revision_number.Statement.{statement}
 use Rattle.refusals.proofs.revision_number.Tie as tie
 
@@ -12,9 +12,6 @@ standing-gate-refuses-requires c κs = search needs
 draw-if-requires : tie.Need-draw-if-requires
 draw-if-requires c κs = search needs
 
-equal-words-requires : tie.Need-equal-words-requires
-equal-words-requires c κs = search needs
-
 draw-if-requires-2 : tie.Need-draw-if-requires-2
 draw-if-requires-2 c κs = search needs
 
@@ -22,14 +19,13 @@ first-drawn-requires : tie.Need-first-drawn-requires
 first-drawn-requires c κs = search needs
 
 returns : tie.Need-returns
-unfolding revision-number
+unfolding over-held
 returns c = (
   c .first-drawn .ensures .0
       ∙ rw (
         c .before .draw-if2 .ensures .0,
-        c .before .before .equal-words .ensures,
-        c .before .before .before .draw-if .ensures .0,
-        c .before .before .before .before .standing-gate-refuses .ensures,
+        c .before .before .draw-if .ensures .0,
+        c .before .before .before .standing-gate-refuses .ensures,
       ),
   omega arith,
 )
@@ -37,4 +33,4 @@ returns c = (
 pub revision-number-spec : {M : Type 1} → statement M
 revision-number-spec =
     tie.close
-    (tie.spec standing-gate-refuses-requires draw-if-requires equal-words-requires draw-if-requires-2 first-drawn-requires returns)
+    (tie.spec standing-gate-refuses-requires draw-if-requires draw-if-requires-2 first-drawn-requires returns)

@@ -21,7 +21,7 @@ store-offer-requires : tie.Need-store-offer-requires
 store-offer-requires c κs =
     let s = c .before .before .before .before .before .before .before in
     rw (c .before .before .before .facilities .ensures, c .before .services .ensures, c .wide .ensures)
-    (s .pre .0 .sized, s .pre .1, s .pre .2, s .pre .3, s .pre .4, s .pre .5, s .pre .6)
+    (s .pre .0 .sized, s .pre .1, s .pre .2, s .pre .3, s .pre .4, s .pre .5, s .pre .6, s .pre .7, s .pre .8 (c .before .before .before .before .before .before .if1 .left))
 
 same-length : tie.Need-same-length
 same-length c = search needs

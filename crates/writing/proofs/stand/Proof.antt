@@ -2,19 +2,20 @@ use borrow.Author.Needs.{needs, sfits-of}
 use Rattle.writing.proofs.stand.Statement.{statement}
 use Rattle.writing.proofs.stand.Tie as tie
 use mathlib.Core.Path.{_≡_, sym, _∙_, ap}
+use mathlib.Core.Logic.{inl}
 use Prim.Native.Nat.{_<_}
 use native.Mathlib.Omega.{arith}
 use mir.Syntax.{w32}
 use mir.Facts.{toZ-ofZ}
 use Rattle.offer_rules.specs.Numbers.{toNat}
 use Rattle.offer_rules.proofs.Periods.{slot-is}
-use Rattle.book_rules.specs.Record.{service-of, period-word}
-use Rattle.book_rules.specs.Words.{standing-half, standing-stamp, cell}
-use Rattle.book_rules.specs.Book.{write-cell}
+use Rattle.book_rules.specs.Record.{facility-of, service-of, period-word, offer-in}
+use Rattle.book_rules.specs.Refusals.{admitted-standing}
+use Rattle.book_rules.specs.Book.{file-standing, book-view}
 use Rattle.book_rules.proofs.Calls.{length-offer}
 use Rattle.book_rules.proofs.OneCall.{accept-standing}
 use Rattle.book_rules.proofs.Rules.{admitted}
-use Rattle.writing.proofs.OfferParts.{judged, standing-parts}
+use Rattle.writing.proofs.OfferParts.{judged, standing-parts, offer-uses-five, standing-ramps}
 
 -- The slot as a count, and that it has passed 10.
 count : (c : tie.After-nat) → c .nat .result ≡ toNat (period-word (c .before .before .before .before .before .before .args .bytes .now))
@@ -22,6 +23,13 @@ count c = c .nat .ensures .0 ∙ ap toNat (toZ-ofZ {w = w32} (sfits-of (c .befor
 
 slot-in : (s : tie.Start) → toNat (period-word (s .args .bytes .now)) < 336
 slot-in s = slot-is (period-word (s .args .bytes .now)) (admitted _ _ _ (s .pre .is-admitted)) .1
+
+-- The number that the offer draws.
+drawn : (c : tie.After-admitted-standing) → let b = c .before .before .before .before .before .before .before .before .before .before .before .before .args .bytes .now in
+    c .admitted-standing .result
+    ≡ admitted-standing (book-view (c .before .before .before .before .before .before .before .before .before .before .before .before .args .book .now)) (facility-of b) (service-of b) (toNat (period-word b)) (offer-in b)
+drawn c =
+    rw (c .admitted-standing .ensures .0, c .before .before .before .before .before .before .before .before .before .wide .ensures, count (c .before .before .before .before .before .before), c .before .before .before .before .read-offer .ensures)
 
 shared-slice-read-wide : tie.Need-shared-slice-read-wide
 shared-slice-read-wide c = search needs
@@ -50,24 +58,36 @@ slice-aggregate-admitted-standing c = search needs
 admitted-standing-requires : tie.Need-admitted-standing-requires
 admitted-standing-requires c κs =
     let s = c .before .before .before .before .before .before .before .before .before .before .before in
-    rw (c .before .before .before .before .before .before .before .before .wide .ensures, count (c .before .before .before .before .before), c .before .before .before .read-offer .ensures)
-    (s .pre .place .tested .usable, s .pre .place .facility-in, s .pre .place .service-in, slot-in s, length-offer (s .args .bytes .now))
+    rw (c .before .before .before .before .before .before .before .before .wide .ensures, count (c .before .before .before .before .before), c .before .before .before .read-offer .ensures) (
+      s .pre .place .tested .usable,
+      s .pre .place .facility-in,
+      s .pre .place .service-in,
+      slot-in s,
+      length-offer (s .args .bytes .now),
+      offer-uses-five (s .args .book .now) (s .args .bytes .now) (s .pre .place .tested) (inl (s .pre .place .call-is)),
+    )
 
-slice-aggregate-file-offer : tie.Need-slice-aggregate-file-offer
-slice-aggregate-file-offer c = search needs
+slice-aggregate-file-standing : tie.Need-slice-aggregate-file-standing
+slice-aggregate-file-standing c = search needs
 
-file-offer-requires : tie.Need-file-offer-requires
-file-offer-requires c κs =
+file-standing-requires : tie.Need-file-standing-requires
+file-standing-requires c κs =
     let s = c .before .before .before .before .before .before .before .before .before .before .before .before .before .before in
-    rw (c .before .before .before .before .before .before .before .before .before .before .before .wide .ensures, count (c .before .before .before .before .before .before .before .before), c .before .before .before .before .before .before .read-offer .ensures)
-    (s .pre .place .tested .usable, s .pre .place .facility-in, s .pre .place .service-in, omega arith, slot-in s, omega arith, length-offer (s .args .bytes .now))
+    rw (c .before .before .before .before .before .before .before .before .before .before .before .wide .ensures, count (c .before .before .before .before .before .before .before .before), c .before .before .before .before .before .before .read-offer .ensures) (
+      s .pre .place .tested .usable,
+      s .pre .place .facility-in,
+      s .pre .place .service-in,
+      slot-in s,
+      length-offer (s .args .bytes .now),
+      standing-ramps (s .args .book .now) (s .args .bytes .now) (s .pre .place .tested) (s .pre .place .call-is) (toNat (period-word (s .args .bytes .now))) (c .before .before .admitted-standing .result) (drawn (c .before .before)),
+    )
 
 same-length : tie.Need-same-length
 same-length c = search needs
 
 returns : tie.Need-returns
 returns c =
-    let x = c .before .file-offer in
+    let x = c .before .file-standing in
     let n = c .before .before .before .before .admitted-standing in
     let o = c .before .before .before .before .before .before .before .before .read-offer in
     let p = c .before .before .before .before .before .before .before .before .before .before in
@@ -77,8 +97,8 @@ returns c =
     let b = s .args .bytes .now in
     let call = s .pre .place .call-is in
     rw (x .ensures .0, x .ensures .1)
-    (judged w b (s .pre .place .tested) _ _ (standing-parts w b call) 3 call (omega arith) (s .pre .is-admitted) (n .result) (rw (n .ensures .0, f .ensures, count p, o .ensures))
-    (write-cell w (f .result) (service-of b) standing-half (p .nat .result) (cell standing-stamp (o .last .1 .0)))
+    (judged w b (s .pre .place .tested) _ _ (standing-parts w b call) 3 call (omega arith) (s .pre .is-admitted) (n .result) (drawn (c .before .before .before .before))
+    (file-standing w (f .result) (service-of b) (p .nat .result) (o .last .1 .0))
     (rw (f .ensures, count p, o .ensures) (sym (accept-standing w b call))))
 
 pub stand-spec : {M : Type 1} → statement M
@@ -94,7 +114,7 @@ stand-spec =
     read-offer-requires
     slice-aggregate-admitted-standing
     admitted-standing-requires
-    slice-aggregate-file-offer
-    file-offer-requires
+    slice-aggregate-file-standing
+    file-standing-requires
     same-length
     returns)

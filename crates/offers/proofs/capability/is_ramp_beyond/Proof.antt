@@ -1,4 +1,5 @@
 use native.Mathlib.Omega.{arith}
+use Rattle.offer_rules.specs.Offer.{ramp-beyond}
 use Rattle.units.proofs.Signs.{back}
 use borrow.Author.Needs.{needs}
 use Rattle.offers.proofs.capability.is_ramp_beyond.Statement.{statement}
@@ -8,9 +9,11 @@ is-beyond-requires : tie.Need-is-beyond-requires
 is-beyond-requires c κs = search needs
 
 returns : tie.Need-returns
+unfolding ramp-beyond
 returns c =
-    let s = c .before .before .before in
-    rw (c .is-beyond .ensures, back (s .args .maximum .0) (omega arith), back (s .args .ramp .0) (omega arith))
+    let d = c .before .before in
+    let s = d .before .before .before in
+    rw (d .is-beyond .ensures, back (s .args .maximum .0) (omega arith), back (s .args .ramp .0) (omega arith))
 
 pub is-ramp-beyond-spec : {M : Type 1} → statement M
 is-ramp-beyond-spec = tie.close (tie.spec is-beyond-requires returns)

@@ -1,4 +1,4 @@
-use Rattle.offers.proofs.Pairing.{pairs-lent}
+use Rattle.offers.proofs.Pairing.{words-lent, pairs-lent}
 use borrow.Author.Needs.{needs}
 use Rattle.offers.proofs.pairs.findings_of.Statement.{statement}
 use Rattle.offers.proofs.pairs.findings_of.Tie as tie
@@ -18,15 +18,12 @@ part-pairs-start c = search needs
 part-pairs-end : tie.Need-part-pairs-end
 part-pairs-end c = search needs
 
-do-five-suffice-requires : tie.Need-do-five-suffice-requires
-do-five-suffice-requires c κs = search needs
-
 findings-in-requires : tie.Need-findings-in-requires
-findings-in-requires c κs = search needs
+findings-in-requires c κs = let s = c .before .before .before in (search needs, rw (words-lent (s .args .offer .now)) (s .pre .3))
 
 returns : tie.Need-returns
 returns c =
-    let h = c .before .before .before in
+    let h = c .before .before in
     rw (c .findings-in .ensures, h .before .lowest-price .ensures, h .highest-price .ensures, pairs-lent (h .before .before .args .offer .now))
 
 pub findings-of-spec : {M : Type 1} → statement M
@@ -38,6 +35,5 @@ findings-of-spec =
     sub-pairs
     part-pairs-start
     part-pairs-end
-    do-five-suffice-requires
     findings-in-requires
     returns)

@@ -2,9 +2,10 @@
 -- The test so far, joined to that of the words left, is the test of all.
 use mathlib.Core.Path.{_≡_, refl}
 use mathlib.Core.Bool.{Bool, true, false, _&&_}
-use mathlib.Core.List.{List}
+use mathlib.Core.List.{List, [], _∷_}
 use Prim.Native.Nat.{ℕ, suc, _+_, _<_, _≤_}
 use native.Mathlib.Numerals.{add-one}
+use native.Mathlib.Omega.{arith}
 use lib.IntN.{ℤ, pos}
 use lib.ListN.{length, drop, drop-of-length-le}
 use lib.Seq.{drop-cons}
@@ -26,3 +27,12 @@ equal-turn equal x y i h k =
 pub equal-all : (equal : Bool) (x y : List ℤ) (i : ℕ) → length x ≤ i → length y ≤ i → (equal && equal-words (drop i x) (drop i y)) ≡ equal
 unfolding equal-words
 equal-all equal x y i h k = rw (drop-of-length-le x h, drop-of-length-le y k) (and-true equal)
+
+-- Its first three words, then those of the pairs.
+pub equal-in-parts : (p u d : ℤ) (l o : List ℤ) → 3 ≤ length o
+    → equal-words (p ∷ (u ∷ (d ∷ l))) o ≡ (eqZ p (word o 0) && (eqZ u (word o 1) && (eqZ d (word o 2) && equal-words l (drop 3 o))))
+unfolding equal-words
+equal-in-parts p u d l [] h = absurd (omega arith)
+equal-in-parts p u d l (a ∷ []) h = absurd (omega arith)
+equal-in-parts p u d l (a ∷ (b ∷ [])) h = absurd (omega arith)
+equal-in-parts p u d l (a ∷ (b ∷ (c ∷ o))) h = refl

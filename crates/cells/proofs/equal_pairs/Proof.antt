@@ -1,4 +1,4 @@
--- equal_words: the words passed, joined to the words left.
+-- equal_pairs: the words passed, joined to the words left.
 use mathlib.Core.Path.{_≡_, refl, sym, _∙_}
 use mathlib.Core.Bool.{_&&_}
 use Prim.Native.Nat.{_≤_, _-_}
@@ -6,15 +6,15 @@ use lib.ListN.{drop}
 use native.Mathlib.Omega.{arith}
 use borrow.Author.Needs.{needs}
 use Rattle.book_rules.specs.Refusals.{equal-words}
-use Rattle.refusals.proofs.WordByWord.{equal-turn, equal-all}
-use Rattle.refusals.proofs.equal_words.Statement.{statement}
-use Rattle.refusals.proofs.equal_words.Tie as tie
+use Rattle.cells.proofs.WordByWord.{equal-turn, equal-all}
+use Rattle.cells.proofs.equal_pairs.Statement.{statement}
+use Rattle.cells.proofs.equal_pairs.Tie as tie
 
 abbrev Inv-loop : tie.InvT-loop
-Inv-loop held offer equal₀ i₀ equal i = (i ≤ 23) × ((equal && equal-words (drop i held) (drop i offer)) ≡ equal-words held offer)
+Inv-loop held offer equal₀ i₀ equal i = (i ≤ 20) × ((equal && equal-words (drop i held) (drop i offer)) ≡ equal-words held offer)
 
 abbrev μ-loop : tie.MeasureT-loop
-μ-loop held offer equal₀ i₀ equal i = 23 - i
+μ-loop held offer equal₀ i₀ equal i = 20 - i
 
 loop-holds : tie.Need-loop-holds Inv-loop μ-loop
 loop-holds c = (omega arith, refl)
@@ -44,7 +44,7 @@ returns c =
     let l = c .before in
     sym (equal-all (l .loop .equal) (l .before .args .held .now) (l .before .args .offer .now) (l .loop .i) (omega arith) (omega arith)) ∙ l .loop .inv .1
 
-pub equal-words-spec : {M : Type 1} → statement M
-equal-words-spec =
+pub equal-pairs-spec : {M : Type 1} → statement M
+equal-pairs-spec =
     tie.close
     (tie.spec Inv-loop μ-loop loop-holds is-word-same-requires add-i loop-less loop-again returns)

@@ -2,8 +2,8 @@
 use Rattle.units.proofs.Counts.{word-back}
 use Rattle.offer_rules.specs.Numbers.{word}
 use borrow.Author.Needs.{needs}
-use Rattle.refusals.proofs.is_word_same.Statement.{statement}
-use Rattle.refusals.proofs.is_word_same.Tie as tie
+use Rattle.cells.proofs.is_word_same.Statement.{statement}
+use Rattle.cells.proofs.is_word_same.Tie as tie
 
 mul-is-equal : tie.Need-mul-is-equal
 mul-is-equal c = search needs
