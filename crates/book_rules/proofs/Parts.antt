@@ -22,10 +22,6 @@ pub word-of-part : (a n i : ℕ) (w : List ℤ) → i < n → word (part a n w) 
 unfolding part
 word-of-part a n i w h = getD-take n (drop a w) i (pos 0) h ∙ getD-drop a w i (pos 0)
 
-pub length-part : (a n : ℕ) (w : List ℤ) → a + n ≤ length w → length (part a n w) ≡ n
-unfolding part
-length-part a n w h = simp (length-take, length-drop) (omega arith)
-
 module _ (w : List ℤ) (a : ℕ) (c : List ℤ) (fits : a + length c ≤ length w) where
   front : length (take a w) ≡ a
   front = length-take-le a w (omega arith)

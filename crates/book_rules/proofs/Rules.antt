@@ -46,17 +46,13 @@ module _ (vw : View) (b : List ℕ) (none-stray : has-stray b ≡ false) where
   unfolding admitted-standing
   admitted-standing-fits k e z = offer-fits _ _ 0 b none-stray (inl e) (then-zero _ _ z .0)
 
-  pub admitted-variation-fits : (p reason : ℕ) → call-of b ≡ 4 → admitted-variation vw (facility-of b) (service-of b) p reason (offer-in b) ≡ 0 → ramps-fit (offer-in b) ≡ true
-  unfolding admitted-variation
-  admitted-variation-fits p reason e z = offer-fits _ _ reason b none-stray (inr e) (then-zero _ _ z .0)
-
   pub standing-fits : call-of b ≡ 3 → judge vw b ≡ 0 → ramps-fit (offer-in b) ≡ true
   unfolding standing-number
   standing-fits e z = admitted-standing-fits (toNat (period-word b)) e (then-zero _ _ (sym (judge-standing vw b e) ∙ z) .1)
 
   pub variation-fits : call-of b ≡ 4 → judge vw b ≡ 0 → ramps-fit (offer-in b) ≡ true
-  unfolding variation-number
-  variation-fits e z = admitted-variation-fits (toNat (period-word b)) (reason-of b) e (then-zero _ _ (sym (judge-variation vw b e) ∙ z) .1)
+  unfolding variation-number admitted-variation
+  variation-fits e z = offer-fits _ _ (reason-of b) b none-stray (inr e) (then-zero _ _ (then-zero _ _ (sym (judge-variation vw b e) ∙ z) .1) .0)
 
 -- Q says for which facilities two states show the same.
 module _ (F S : ℕ) (Q : ℕ → Type 0) where

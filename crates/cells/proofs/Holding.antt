@@ -7,13 +7,12 @@ use Prim.Native.Nat.{ℕ, _+_, _-_, _≤_}
 use native.Mathlib.Omega.{arith}
 use native.Mathlib.Nat.{add-zero}
 use lib.IntN.{ℤ, pos}
-use lib.ListN.{length, take, drop, length-drop}
-use lib.Seq.{drop-drop, take-all}
+use lib.ListN.{take, drop}
+use lib.Seq.{drop-drop}
 use Rattle.offer_rules.specs.Numbers.{eqZ, word}
 use Rattle.offer_rules.specs.Time.{slot-of}
 use Rattle.offer_rules.specs.Offer.{Held}
 use Rattle.book_rules.specs.Words.{part, cell-place, cell-held, standing-half, variation-half, standing-stamp, variation-stamp}
-use Rattle.book_rules.specs.Force.{no-offer, standing-offer, offer-variation, first-of}
 use Rattle.book_rules.specs.Book.{facilities-in, services-in, held, book-view}
 use Rattle.book_rules.proofs.Parts.{word-of-part}
 use Rattle.cells.specs.declared.InForce as place
@@ -52,22 +51,6 @@ pub variation-inside : (x : place.InForce) (at n : ℕ) → x ≡ Variation at �
 unfolding end-of
 variation-inside x at n e h = rw e at h
 
--- What a standing cell holds, from the offer that is in force where there is no variation.
-pub no-standing : (o : Option Held) → no-offer ≡ first-of none o → o ≡ none
-unfolding first-of
-no-standing none e = refl
-no-standing (some x) e = let z : _≡_ {A = ℕ} 0 1 = cc e in absurd (omega arith)
-
-pub a-standing : (o : Option Held) (h : Held) → standing-offer h ≡ first-of none o → o ≡ some h
-unfolding first-of
-a-standing none h e = let z : _≡_ {A = ℕ} 0 1 = cc e in absurd (omega arith)
-a-standing (some x) h e = let q : x ≡ h = cc e in ap some q
-
-pub never-a-variation : (o : Option Held) (h : Held) → offer-variation h ≡ first-of none o → ⊥
-unfolding first-of
-never-a-variation none h e = let z : _≡_ {A = ℕ} 0 1 = cc e in omega arith
-never-a-variation (some x) h e = let z : _≡_ {A = ℕ} 0 1 = cc e in omega arith
-
 -- ---- a cell's offer
 
 -- The words of its pairs, as they are lent.
@@ -83,7 +66,3 @@ pairs-lent at w =
     past-four (a ∷ (b ∷ [])) = refl
     past-four (a ∷ (b ∷ (c ∷ []))) = refl
     past-four (a ∷ (b ∷ (c ∷ (d ∷ l)))) = refl
-
--- The words after an offer's first three are those of its pairs, as they are lent.
-pub tail-lent : (l : List ℤ) (n : ℕ) → length l ≡ n → take (n - 3) (drop 3 l) ≡ drop 3 l
-tail-lent l n h = take-all (n - 3) (drop 3 l) (simp length-drop (omega arith))

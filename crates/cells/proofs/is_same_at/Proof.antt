@@ -5,7 +5,7 @@ use mathlib.Core.Path.{_≡_, refl, sym, ap₂, _∙_}
 use mathlib.Core.Bool.{Bool, _&&_}
 use native.Mathlib.Omega.{arith}
 use lib.IntN.{ℤ}
-use lib.ListN.{length, drop}
+use lib.ListN.{drop}
 use mir.Syntax.{w32}
 use mir.Val.{ofZ, toZ, SFits}
 use mir.Facts.{toZ-ofZ}
@@ -13,8 +13,8 @@ use Rattle.offer_rules.specs.Numbers.{eqZ, word}
 use Rattle.offer_rules.specs.Offer.{proportion, ramp-up, ramp-down}
 use Rattle.book_rules.specs.Words.{cell-held}
 use Rattle.book_rules.specs.Refusals.{equal-words}
+use Rattle.offers.proofs.Pairing.{words-lent}
 use Rattle.cells.specs.Meaning.{held-at, offer-at}
-use Rattle.cells.proofs.Holding.{tail-lent}
 use Rattle.cells.proofs.WordByWord.{equal-in-parts}
 
 -- src/lib.rt:249:9
@@ -96,7 +96,7 @@ returns c =
     (compared _ (t .terms-at .result .up) (word o 1) (ramp-up held) (word o 1) (d2 .is-equal2 .ensures) (up-fits t) (sfits-of (d2 .before .before .is-equal-arg2 .given)) (is .1) refl)
     (ap₂ _&&_
     (compared _ (t .terms-at .result .down) (word o 2) (ramp-down held) (word o 2) (d3 .is-equal3 .ensures) (down-fits t) (sfits-of (d3 .before .before .is-equal-arg3 .given)) (is .2) refl)
-    (c .equal-pairs .ensures ∙ ap₂ equal-words (c .before .before .pair-words .ensures .0) (tail-lent o (length o) refl))))
+    (c .equal-pairs .ensures ∙ ap₂ equal-words (c .before .before .pair-words .ensures .0) (words-lent o))))
     ∙ sym (equal-in-parts (proportion held) (ramp-up held) (ramp-down held) (drop 3 held) o (omega arith))
 
 pub is-same-at-spec : {M : Type 1} → statement M

@@ -1,16 +1,16 @@
 use borrow.Author.Needs.{needs, sfits-of}
 use Rattle.cells.proofs.write_cell.Statement.{statement}
 use Rattle.cells.proofs.write_cell.Tie as tie
-use mathlib.Core.Path.{refl, ap₂, _∙_}
+use mathlib.Core.Path.{ap₂, _∙_}
 use native.Mathlib.Omega.{arith}
-use lib.ListN.{length, length-set}
+use lib.ListN.{length-set}
 use mir.Syntax.{w32}
 use mir.Facts.{toZ-ofZ, toZ-pos}
 use Rattle.offer_rules.specs.Numbers.{word}
 use Rattle.book_rules.specs.Words.{packed-ramps, cell}
 use Rattle.book_rules.proofs.Cells.{each-fits}
 use Rattle.units.proofs.Counts.{word-back}
-use Rattle.cells.proofs.Holding.{tail-lent}
+use Rattle.offers.proofs.Pairing.{words-lent}
 use Rattle.cells.proofs.Putting.{length-four-set, cell-written}
 
 -- src/lib.rt:62:26
@@ -101,7 +101,7 @@ returns c =
     let up = word-back (word o 1) (d .before .before .packed-ramps-arg .given) in
     let down = word-back (word o 2) (d .before .packed-ramps-arg2 .given) in
     cell-written w (s .pre .0) (toZ-pos w32 {n = s .args .stamp} (omega arith)) (word-back (word o 0) (d .before .before .before .words .given))
-    (toZ-ofZ {w = w32} (sfits-of (d .packed-ramps .ok)) ∙ d .packed-ramps .ensures ∙ ap₂ packed-ramps up down) (toZ-pos w32 {n = s .args .minute} (omega arith)) (c .before .copy-words .ensures ∙ tail-lent o (length o) refl)
+    (toZ-ofZ {w = w32} (sfits-of (d .packed-ramps .ok)) ∙ d .packed-ramps .ensures ∙ ap₂ packed-ramps up down) (toZ-pos w32 {n = s .args .minute} (omega arith)) (c .before .copy-words .ensures ∙ words-lent o)
 
 pub write-cell-spec : {M : Type 1} → statement M
 write-cell-spec =

@@ -7,7 +7,7 @@ use mir.Syntax.{w32}
 use mir.Val.{toZ, ofZ}
 use borrow.Rule.Slice.PartMut.{midOf, mid-len}
 use Rattle.book_rules.specs.Record.{offer-in}
-use Rattle.units.proofs.Signs.{back}
+use Rattle.units.proofs.Counts.{word-back}
 use Rattle.record.proofs.WordLists.{three-then-lent}
 use borrow.Author.Needs.{needs}
 use Rattle.record.proofs.read_offer.Statement.{statement}
@@ -57,7 +57,7 @@ returns c =
     let three = set (set (set (s .args .words .now) 0 (toZ w32 (ofZ w32 (h .result)))) 1 (toZ w32 (ofZ w32 (u .result)))) 2 (toZ w32 (ofZ w32 (d .result))) in
     let twenty : length (midOf 3 20 three) ≡ 20 = mid-len 3 23 three (simp length-set (omega arith)) in
     three-then-lent (s .args .words .now) (w .last .0) _ _ _ (s .pre .1)
-    ∙ rw (back (h .result) (h .ok), h .ensures, back (u .result) (u .ok), u .ensures, back (d .result) (d .ok), d .ensures, w .ensures, twenty)
+    ∙ rw (word-back (h .result) (h .ok), h .ensures, word-back (u .result) (u .ok), u .ensures, word-back (d .result) (d .ok), d .ensures, w .ensures, twenty)
 
 pub read-offer-spec : {M : Type 1} → statement M
 read-offer-spec =

@@ -1,5 +1,5 @@
 use Rattle.offer_rules.specs.Offer.{kind-of, proportion-refused}
-use Rattle.units.proofs.Signs.{back}
+use Rattle.units.proofs.Counts.{word-back}
 use borrow.Author.Needs.{needs}
 use Rattle.offers.proofs.capability.is_proportion_refused.Statement.{statement}
 use Rattle.offers.proofs.capability.is_proportion_refused.Tie as tie
@@ -32,7 +32,7 @@ returns c =
       c .before .proportion-at2 .ensures,
       d .before .proportion-at .ensures,
       c .before .before .is-proportion-tested .ensures,
-      back (kind-of (s .args .capability .now)) (d .is-proportion-tested-arg .given),
+      word-back (kind-of (s .args .capability .now)) (d .is-proportion-tested-arg .given),
     )
 
 pub is-proportion-refused-spec : {M : Type 1} → statement M

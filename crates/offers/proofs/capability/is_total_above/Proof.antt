@@ -1,6 +1,5 @@
 use native.Mathlib.Omega.{arith}
-use Rattle.units.proofs.Signs.{back}
-use Rattle.units.proofs.Counts.{long-back}
+use Rattle.units.proofs.Counts.{word-back, long-back}
 use borrow.Author.Needs.{needs}
 use lib.IntN.{pos}
 use mir.Facts.{sfits-lit}
@@ -14,7 +13,7 @@ cast-result c = cast-fits (pos 0) (c .before .before .args .maximum .0) (sfits-l
 returns : tie.Need-returns
 returns c =
     let s = c .before .before .before .before in
-    rw (back (s .args .maximum .0) (omega arith), long-back (s .args .maximum .0) (omega arith), long-back (s .args .total .0) (omega arith))
+    rw (word-back (s .args .maximum .0) (omega arith), long-back (s .args .maximum .0) (omega arith), long-back (s .args .total .0) (omega arith))
 
 pub is-total-above-spec : {M : Type 1} → statement M
 is-total-above-spec = tie.close (tie.spec cast-result returns)

@@ -1,5 +1,5 @@
 use native.Mathlib.Omega.{arith}
-use Rattle.units.proofs.Signs.{back}
+use Rattle.units.proofs.Counts.{word-back}
 use borrow.Author.Needs.{needs}
 use Rattle.offers.proofs.pairs.is_blank.Statement.{statement}
 use Rattle.offers.proofs.pairs.is_blank.Tie as tie
@@ -8,7 +8,7 @@ is-zero-requires : tie.Need-is-zero-requires
 is-zero-requires c κs = search needs
 
 returns : tie.Need-returns
-returns c = rw (back (c .before .before .args .quantity .0) (omega arith)) at (c .is-zero .ensures)
+returns c = rw (word-back (c .before .before .args .quantity .0) (omega arith)) at (c .is-zero .ensures)
 
 pub is-blank-spec : {M : Type 1} → statement M
 is-blank-spec = tie.close (tie.spec is-zero-requires returns)

@@ -1,5 +1,5 @@
 use native.Mathlib.Omega.{arith}
-use Rattle.units.proofs.Signs.{back}
+use Rattle.units.proofs.Counts.{word-back}
 use borrow.Author.Needs.{needs}
 use Rattle.offers.proofs.pairs.is_out_of_range.Statement.{statement}
 use Rattle.offers.proofs.pairs.is_out_of_range.Tie as tie
@@ -16,10 +16,10 @@ returns c =
     rw (
       c .before .before .before .before .is-beyond .ensures,
       c .is-beyond2 .ensures,
-      back (s .args .quantity .0) (omega arith),
-      back (s .args .lowest .0) (omega arith),
-      back (s .args .highest .0) (omega arith),
-      back (s .args .price .0) (omega arith),
+      word-back (s .args .quantity .0) (omega arith),
+      word-back (s .args .lowest .0) (omega arith),
+      word-back (s .args .highest .0) (omega arith),
+      word-back (s .args .price .0) (omega arith),
     )
 
 pub is-out-of-range-spec : {M : Type 1} → statement M
