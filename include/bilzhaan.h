@@ -32,8 +32,8 @@
 
 /* ---- versions and sizes ---- */
 
-/* This header's version, 1.3.0: 10,000 times the first number, 100 times the second, and the third. */
-#define BILZHAAN_VERSION 10300
+/* This header's version, 1.4.0: 10,000 times the first number, 100 times the second, and the third. */
+#define BILZHAAN_VERSION 10400
 
 /* A book of another version than BILZHAAN_BOOK_VERSION, head word 1, is refused with 1. Nothing converts a stored book of
  * version 1, whose cells hold no minute: its host opens a new book and files again, from its own records, what was accepted,
@@ -228,6 +228,11 @@ uint32_t bilzhaan_record_test(const uint8_t *bytes, size_t count, int32_t facili
  * the last four are given for energy alone too. Words past the book's are never written. */
 uint32_t bilzhaan_open(int32_t *words, size_t count, int32_t facilities, int32_t services,
                        const int32_t limits[BILZHAAN_LIMITS]);
+
+/* The least period of `slot` that has not begun at `minute`: the one whose gate closure a standing offer over a held one is
+ * refused for (17). A period begins at its first minute, so in that minute the slot's next is a week later. For every
+ * minute, the book's clock and later ones; a slot of 336 or more is taken mod 336. Remainders alone, and no branch. */
+uint32_t bilzhaan_next_period(uint32_t minute, uint32_t slot);
 
 /* One of the nine calls on an opened book, `length` bytes of a record: the number, the 24 words and the sum. */
 struct bilzhaan_answer bilzhaan_call(int32_t *words, size_t count, const uint8_t *bytes, size_t length);

@@ -66,8 +66,8 @@ trap 'kill "$random" 2>/dev/null || :' EXIT
 symbols() { nm "$library" | awk "NF >= 2 { kind = \$(NF - 1); name = \$NF; if ($1) print name }"; }
 functions() {
     local found
-    found=$(symbols 'kind == "T" && name ~ /^bilzhaan_(call|open|record_test|version|book_version)$/') || return 1
-    [ "$(echo "$found" | wc -l)" -eq 5 ]
+    found=$(symbols 'kind == "T" && name ~ /^bilzhaan_(call|open|record_test|next_period|version|book_version)$/') || return 1
+    [ "$(echo "$found" | wc -l)" -eq 6 ]
 }
 calls_nothing() {
     local found
