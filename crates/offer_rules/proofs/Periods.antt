@@ -90,5 +90,5 @@ next-is-one now k p h n = omega (arith, n .least q (q-is .of-the-slot ∙ sym e)
     q-is = next-is-least now k h
 
 -- It is no later than the slot's period in the week after this minute's.
-pub next-is-near : (now k p : ℕ) → IsNext now (slot-of k) p → p ≤ slot-of k + slots * (now / 10080 + 1)
-next-is-near now k p n = n .least (slot-of k + slots * (now / 10080 + 1)) (omega arith) (later-not-begun now _ (omega arith))
+pub next-is-near : (now k p : ℕ) → IsNext now (slot-of k) p → p ≤ slot-of k + slots * (now / start-of slots + 1)
+next-is-near now k p n = n .least (slot-of k + slots * (now / start-of slots + 1)) (omega arith) (later-not-begun now _ (omega arith))

@@ -61,7 +61,7 @@ pub record IsNext (now k p : ℕ) : Type 0 where
   pub not-begun : has-begun now (pos p) ≡ false
   pub least : (q : ℕ) → slot-of q ≡ k → has-begun now (pos q) ≡ false → p ≤ q
 
--- "the slot's next period not yet begun": of k, k + 336, k + 672 .. the first that has not. There are fewer weeks than minutes until then.
+-- "the slot's next period not yet begun": the first of k, k + 336, k + 672 .. that has not. Fewer than now + 1 of them have.
 unfoldable pub first-not-begun : ℕ → ℕ → ℕ → ℕ
 first-not-begun zero now p = p
 first-not-begun (suc weeks) now p = cond (has-begun now (pos p)) (first-not-begun weeks now (p + slots)) p
@@ -69,6 +69,6 @@ first-not-begun (suc weeks) now p = cond (has-begun now (pos p)) (first-not-begu
 unfoldable pub next-period : ℕ → ℕ → ℕ
 next-period now k = first-not-begun (suc now) now k
 
--- "For every slot 0 to 335 and minute": what is counted is what the sentence asks. Proved as next-is-least (proofs/Periods).
+-- "For every slot 0 to 335 and minute .. it gives the least": what is counted is what the sentence asks (proofs/Periods, next-is-least).
 abbrev pub NextIsLeast : Type 0
 NextIsLeast = (now k : ℕ) → k < slots → IsNext now k (next-period now k)
