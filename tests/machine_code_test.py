@@ -4,7 +4,7 @@ loop in that step". Every instruction of it is one of a few that read no flag, s
 
 The function for C is read whole; in the call, into which it is compiled, the run from the division by 30 to the remainder by 336. The
 reader is tried on C functions that give the same periods: those that decide by anything but remainders must be refused.
-Argument: the static library. Last line: 'N passed, M failed'."""
+Argument: the static library; or `--with-if` and an archive whose function decides by an `if`. Last line: 'N passed, M failed'."""
 import collections
 import ctypes
 import os
@@ -175,14 +175,25 @@ def test_reader():
                 check(for_more, f'{name} by {compiler} {level} is refused, and not for a division alone', *refused(code[name]))
 
 
+def test_with_if(archive):
+    linked = os.path.join(OUT, 'with_if.so')
+    subprocess.run(['gcc', '-shared', '-Wl,--whole-archive', archive, '-Wl,--no-whole-archive', '-o', linked], check=True)
+    check(gives_periods(ctypes.CDLL(linked)['bilzhaan_next_period']), 'the function with an `if` gives the periods')
+    check(refused(functions(archive)['bilzhaan_next_period']), 'the function with an `if` is refused')
+
+
 def main():
-    if len(sys.argv) != 2:
-        sys.exit('usage: tests/machine_code_test.py LIBRARY.a')
+    with_if = sys.argv[1:2] == ['--with-if']
+    if len(sys.argv) != 2 + with_if:
+        sys.exit('usage: tests/machine_code_test.py LIBRARY.a, or --with-if ARCHIVE.a')
     os.makedirs(OUT, exist_ok=True)
-    code = functions(sys.argv[1])
-    test_function(code.get('bilzhaan_next_period', []))
-    test_call(sys.argv[1], code.get('bilzhaan_call', []))
-    test_reader()
+    if with_if:
+        test_with_if(sys.argv[2])
+    else:
+        code = functions(sys.argv[1])
+        test_function(code.get('bilzhaan_next_period', []))
+        test_call(sys.argv[1], code.get('bilzhaan_call', []))
+        test_reader()
     print(f'{passed} passed, {failed} failed')
     sys.exit(failed != 0)
 
