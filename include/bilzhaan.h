@@ -15,7 +15,8 @@
  * - It allocates nothing, has no globals and may run in any number of threads at once, each on a book of its own.
  * - It always returns. It reads the words and bytes that it is lent and no others, and writes only the words.
  * - Its work is bounded: by the pairs of an offer for filings and look-ups, by the facilities for a total, by the
- *   112 bytes for the record test, by BILZHAAN_BOOK_WORDS for the opening. Never by megawatts, minutes or periods.
+ *   112 bytes for the record test, by BILZHAAN_BOOK_WORDS for the opening; a slot's next period is a division and a
+ *   remainder. Never by megawatts, minutes or periods.
  * - Whatever the words and bytes hold, the answer is the one that the documents give. A refused call returns zeros
  *   beside its number and leaves every word as it was; a refused opening leaves every word as it was.
  * - Look-ups (8), totals (9) and whatever is refused store nothing: for them the words may lie in read-only memory.
@@ -229,9 +230,10 @@ uint32_t bilzhaan_record_test(const uint8_t *bytes, size_t count, int32_t facili
 uint32_t bilzhaan_open(int32_t *words, size_t count, int32_t facilities, int32_t services,
                        const int32_t limits[BILZHAAN_LIMITS]);
 
-/* The least period of `slot` that has not begun at `minute`: the one whose gate closure a standing offer over a held one is
- * refused for (17). A period begins at its first minute, so in that minute the slot's next is a week later. For every
- * minute, the book's clock and later ones; a slot of 336 or more is taken mod 336. Remainders alone, and no branch. */
+/* The least period of `slot` that has not begun at `minute`, by which a standing offer over a held one is judged (17). At
+ * minute 30 * P period P has begun, so its slot's next is P + 336. For any minute, past BILZHAAN_CLOCK_LAST too; a slot of
+ * 336 or more is taken mod 336. The result, a period and none of the numbers above, fits an int32_t.
+ * It is worked out by remainders alone, without a branch. */
 uint32_t bilzhaan_next_period(uint32_t minute, uint32_t slot);
 
 /* One of the nine calls on an opened book, `length` bytes of a record: the number, the 24 words and the sum. */

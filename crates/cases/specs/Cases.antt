@@ -186,7 +186,7 @@ cases =
     ∷ record { book = put opened-book 1 (pos 1 ∷ []); before = []; last = plant; answered = draws 1 }
     ∷ record { book = put opened-book 1 (pos 2 ∷ []); before = []; last = plant; answered = passes }
     ∷ record { book = put opened-book 1 (pos 3 ∷ []); before = []; last = plant; answered = draws 1 }
-    -- 17 of a standing offer over a held one, by "the slot's next period not yet begun, at slot boundaries as well": the minute before a period, and its first
+    -- 17 of a standing offer over a held one, by "the slot's next period not yet begun", "at slot boundaries as well": in the minute before a period, and in its first
     ∷ revised 4 119 (draws 17)
     ∷ revised 4 120 passes
     ∷ revised 0 0 passes

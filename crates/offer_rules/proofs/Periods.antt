@@ -65,7 +65,7 @@ chosen P false x y = y refl
 counted-least : (weeks now k p : ℕ) → slot-of p ≡ k → ((q : ℕ) → slot-of q ≡ k → now < start-of q → p ≤ q) → now < start-of (p + weeks * slots)
     → IsNext now k (first-not-begun weeks now p)
 unfolding first-not-begun
-counted-least zero now k p e l h = starts-next now k p e (omega (arith, h)) l
+counted-least zero now k p e l h = starts-next now k p e (omega arith) l
 counted-least (suc weeks) now k p e l h =
     chosen (IsNext now k) _
     (λ b. counted-least weeks now k (p + slots) (omega arith) (λ q s a. omega (arith, l q s a, begun _ _ b)) (omega arith))
@@ -74,9 +74,9 @@ counted-least (suc weeks) now k p e l h =
 -- What the rule counts is the least period of that slot not yet begun,
 pub next-is-least : NextIsLeast
 unfolding next-period
-next-is-least now k h = counted-least _ now k _ (omega arith) (λ q e a. omega (arith, e)) (omega arith)
+next-is-least now k h = counted-least _ now k _ (omega arith) (λ q e a. omega arith) (omega arith)
 
--- and no other period is; a number of 336 or more stands for its slot.
+-- and no other period is. The code's promise is of slot-of k, which is k.
 own-slot : (k : ℕ) → k < slots → slot-of k ≡ k
 own-slot k h = omega arith
 

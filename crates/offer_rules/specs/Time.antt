@@ -61,7 +61,7 @@ pub record IsNext (now k p : ℕ) : Type 0 where
   pub not-begun : has-begun now (pos p) ≡ false
   pub least : (q : ℕ) → slot-of q ≡ k → has-begun now (pos q) ≡ false → p ≤ q
 
--- "the slot's next period not yet begun": the first of k, k + 336, k + 672 .. that has not. Fewer than now + 1 of them have.
+-- "the slot's next period not yet begun": the first of k, k + 336, k + 672 .. that has not. At most now + 1 of them have.
 unfoldable pub first-not-begun : ℕ → ℕ → ℕ → ℕ
 first-not-begun zero now p = p
 first-not-begun (suc weeks) now p = cond (has-begun now (pos p)) (first-not-begun weeks now (p + slots)) p

@@ -1,5 +1,4 @@
 -- standing_gate_refuses: the gate of the slot's next period, which is the only one.
-use mathlib.Core.Path.{_∙_}
 use native.Mathlib.Omega.{arith}
 use Rattle.offer_rules.specs.Gate.{standing-gate-refuses}
 use Rattle.offer_rules.proofs.Periods.{next-is-one, next-is-near}

@@ -24,7 +24,7 @@ cast-result : tie.Need-cast-result
 cast-result c = search needs
 
 returns : tie.Need-returns
-returns c = starts-next _ _ _ (omega arith) (omega arith) (λ q e a. omega (arith, e, a))
+returns c = starts-next _ _ _ (omega arith) (omega arith) (λ q e a. omega arith)
 
 pub bilzhaan-next-period-spec : {M : Type 1} → statement M
 bilzhaan-next-period-spec =
