@@ -374,7 +374,7 @@ static void make_kinds(void)
     add_calls("3 standing, no such slot", 10, energy_keys, keys, 1, no_slot_for);
     add_calls("3 standing, prices don't rise", 13, energy_keys, keys, 1, falling_for);
     add_calls("3 standing, above capacity", 16, energy_keys, keys, 1, above_for);
-    add_calls("3 standing, inside gate closure", 17, back_gate_keys, in_gate, 2, standing_for);
+    add_calls("3 standing, inside gate closure", 17, back_gate_keys, in_gate, 1, standing_for);
     add_calls("3 standing, duplicate", 18, read_keys, keys, 1, standing_for);
     add_calls("4 variation, gate open, energy", 0, energy_keys, keys, 2, variation_for);
     add_calls("4 variation, gate open, reserve", 0, reserve_keys, keys, 2, variation_for);

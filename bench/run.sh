@@ -104,7 +104,7 @@ awk -F'\t' '
             for (j = 1; j <= subjects; j++) figures[j] = median(order[i], subject[j])
             row(order[i], figures, "%.1f")
         }
-        printf "\nThe loop with a call that does nothing takes %.1f ns, with a record test that does nothing %.1f ns, with a next period that does nothing %.1f ns.\n", \
+        printf "\nThe loop with a call that does nothing takes %.1f ns, with a record test %.1f ns, with a next period %.1f ns.\n", \
             median("1 clock" FS "hot", "loop"), median("record test, look-up" FS "hot", "loop"), median("next period" FS "hot", "loop")
         if (!counted) exit
         head("Instructions a call, by callgrind, the loop taken off:")

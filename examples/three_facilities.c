@@ -130,7 +130,7 @@ int main(void)
         .facility = GAS_TURBINE, .service = BILZHAAN_ENERGY, .period = 24, .ramp_up = 100, .ramp_down = 100,
         .pairs = {{.price = 9500, .quantity = 800}}});
     if (file("Another standing offer of the gas turbine for Mondays at 12:00") == BILZHAAN_GATE_CLOSED)
-        printf("  It may be filed from minute %" PRIu32 " on\n",
+        printf("  It may be filed from minute %" PRIu32 " on, for the slot's period a week later\n",
                BILZHAAN_PERIOD_MINUTES * bilzhaan_next_period(690 + BILZHAAN_SCHEDULE_CUTOFF_MINUTES, 24));
 
     /* a variation without pairs doesn't mean 0.0 MW: the standing offer stands again */

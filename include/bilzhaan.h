@@ -231,8 +231,9 @@ uint32_t bilzhaan_open(int32_t *words, size_t count, int32_t facilities, int32_t
                        const int32_t limits[BILZHAAN_LIMITS]);
 
 /* The least period of `slot` that has not begun at `minute`, by which a standing offer over a held one is judged (17). At
- * minute 30 * P period P has begun, so its slot's next is P + 336. For any minute, past BILZHAAN_CLOCK_LAST too; a slot of
- * 336 or more is taken mod 336. The result, a period and none of the numbers above, fits an int32_t.
+ * minute 30 * P period P has begun, so its slot's next is P + 336. No book is asked and nothing refused: any minute will
+ * do, past BILZHAAN_CLOCK_LAST too, and a slot of 336 or more is taken mod 336; a negative number, converted, is another
+ * minute or slot. The period, which fits an int32_t, may lie past the horizon (10).
  * It is worked out by remainders alone, without a branch. */
 uint32_t bilzhaan_next_period(uint32_t minute, uint32_t slot);
 

@@ -111,9 +111,25 @@ static void boundaries(void)
         EQUAL(b.words[cell_at(&b, 0, 0, 0, slot) + 5], held[slot]); /* the quantity of its only pair */
 }
 
+/* The function at every minute of two weeks. */
+static void each_minute(uint32_t from, uint32_t begun)
+{
+    uint32_t next[SLOTS];
+    for (uint32_t slot = 0; slot < SLOTS; slot++)
+        next[slot] = searched(from, slot, begun);
+    for (uint32_t minute = from; minute <= from + 2 * 30 * SLOTS; minute++) {
+        for (uint32_t slot = 0; slot < SLOTS; slot++)
+            if (30 * next[slot] <= minute)
+                next[slot] = searched(minute, slot, next[slot]);
+        function_at(minute, next);
+    }
+}
+
 void test_next_period(void)
 {
     by_hand();
     past_the_ranges();
+    each_minute(0, 0);
+    each_minute(LAST_MINUTE - 2 * 30 * SLOTS, LAST_BEGUN - 2 * SLOTS);
     boundaries();
 }

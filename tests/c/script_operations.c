@@ -145,7 +145,7 @@ static const char *next_period(struct books *b, const struct line *l, struct ans
     int32_t minute, slot;
     if (!read_word(l->arguments[0], &minute) || !read_word(l->arguments[1], &slot))
         return "an argument is no number of 32 bits";
-    if (minute < 0 || minute > 1000000000 || slot < 0 || slot > 335)
+    if (minute < 0 || minute > BILZHAAN_CLOCK_LAST || slot < 0 || slot >= BILZHAAN_WEEK_SLOTS)
         return "no such minute or slot";
     int64_t periods[BOOKS] = {bilzhaan_next_period((uint32_t)minute, (uint32_t)slot),
                               plain_next_period((uint32_t)minute, (uint32_t)slot), list_machine_next_period(minute, slot)};

@@ -2,7 +2,7 @@
 # A slot's next period by an `if`, proved to keep the promise of crates/periods and built for C as that is: no proof tells the two apart, and
 # the reader of machine code must. Over the crates that are proved in target/. Last line: 'N passed, M failed'.
 set -euo pipefail
-cd "$(dirname "$0")/../.."
+cd "$(dirname "$0")/.."
 
 repository=$(mktemp -d)
 trap 'rm -rf "$repository"' EXIT
