@@ -29,16 +29,19 @@ static const int32_t limits[6] = {-450000, 450000, 450000, 450000, 450000, 45000
 typedef __typeof__(bilzhaan_record_test) record_test_function;
 typedef __typeof__(bilzhaan_open) open_function;
 typedef __typeof__(bilzhaan_call) call_function;
+typedef __typeof__(bilzhaan_next_period) next_period_function;
 
 record_test_function gcc_o2_record_test, gcc_o3_record_test, clang_o2_record_test;
 open_function gcc_o2_open, gcc_o3_open, clang_o2_open;
 call_function gcc_o2_call, gcc_o3_call, clang_o2_call;
+next_period_function gcc_o2_next_period, gcc_o3_next_period, clang_o2_next_period;
 
 struct subject {
     const char *name;
     record_test_function *record_test;
     open_function *open;
     call_function *call;
+    next_period_function *next_period;
     int32_t *words;
     int32_t *links; /* a book of as many facilities, all of them links */
     double best; /* nanoseconds a call */
@@ -67,20 +70,26 @@ static uint32_t no_open(int32_t *words, size_t count, int32_t facilities, int32_
     return 0;
 }
 
+static uint32_t no_next_period(uint32_t minute, uint32_t slot)
+{
+    (void)slot;
+    return minute;
+}
+
 static struct subject subjects[] = {
-    {"library", bilzhaan_record_test, bilzhaan_open, bilzhaan_call, NULL, NULL, 0},
-    {"gcc -O2", gcc_o2_record_test, gcc_o2_open, gcc_o2_call, NULL, NULL, 0},
-    {"gcc -O3", gcc_o3_record_test, gcc_o3_open, gcc_o3_call, NULL, NULL, 0},
+    {"library", bilzhaan_record_test, bilzhaan_open, bilzhaan_call, bilzhaan_next_period, NULL, NULL, 0},
+    {"gcc -O2", gcc_o2_record_test, gcc_o2_open, gcc_o2_call, gcc_o2_next_period, NULL, NULL, 0},
+    {"gcc -O3", gcc_o3_record_test, gcc_o3_open, gcc_o3_call, gcc_o3_next_period, NULL, NULL, 0},
 #ifdef WITH_CLANG
-    {"clang -O2", clang_o2_record_test, clang_o2_open, clang_o2_call, NULL, NULL, 0},
+    {"clang -O2", clang_o2_record_test, clang_o2_open, clang_o2_call, clang_o2_next_period, NULL, NULL, 0},
 #endif
-    {"loop", no_test, no_open, no_call, NULL, NULL, 0},
+    {"loop", no_test, no_open, no_call, no_next_period, NULL, NULL, 0},
 };
 enum { SUBJECTS = sizeof subjects / sizeof *subjects, BOOKS = SUBJECTS - 1 };
 
 /* ---- kinds of calls ---- */
 
-enum measured { CALL, RECORD_TEST, OPENING };
+enum measured { CALL, RECORD_TEST, OPENING, NEXT_PERIOD };
 
 struct kind {
     const char *name;
@@ -320,6 +329,15 @@ static struct record last_byte_for(struct key k, int step)
     return r;
 }
 
+/* No record: a minute and a slot in its first bytes, for the function that takes these. */
+static struct record next_period_for(struct key k, int step)
+{
+    uint32_t asked[2] = {(uint32_t)below(BILZHAAN_CLOCK_LAST + 1), (uint32_t)below(BILZHAAN_WEEK_SLOTS)};
+    struct record r = look_up_for(k, step);
+    memcpy(r.bytes, asked, sizeof asked);
+    return r;
+}
+
 static void make_kinds(void)
 {
     in_gate = keys < 256 ? keys : 256;
@@ -356,6 +374,7 @@ static void make_kinds(void)
     add_calls("3 standing, no such slot", 10, energy_keys, keys, 1, no_slot_for);
     add_calls("3 standing, prices don't rise", 13, energy_keys, keys, 1, falling_for);
     add_calls("3 standing, above capacity", 16, energy_keys, keys, 1, above_for);
+    add_calls("3 standing, inside gate closure", 17, back_gate_keys, in_gate, 1, standing_for);
     add_calls("3 standing, duplicate", 18, read_keys, keys, 1, standing_for);
     add_calls("4 variation, gate open, energy", 0, energy_keys, keys, 2, variation_for);
     add_calls("4 variation, gate open, reserve", 0, reserve_keys, keys, 2, variation_for);
@@ -393,6 +412,7 @@ static void make_kinds(void)
     add_calls("record test, reserve offer", 0, reserve_keys, keys, 1, variation_for)->what = RECORD_TEST;
     add_calls("record test, look-up", 0, energy_keys, keys, 1, look_up_for)->what = RECORD_TEST;
     add_calls("record test, unused byte", 4, energy_keys, keys, 1, last_byte_for)->what = RECORD_TEST;
+    add_calls("next period", 0, energy_keys, keys, 1, next_period_for)->what = NEXT_PERIOD;
 }
 
 /* ---- measuring ---- */
@@ -420,6 +440,10 @@ __attribute__((noinline)) uint64_t measured_calls(struct run *run)
         } else if (kind->what == RECORD_TEST) {
             uint32_t number = who->record_test(bytes, kind->length, F, S);
             seen += (uint64_t)(number != kind->expected) << 40;
+        } else if (kind->what == NEXT_PERIOD) {
+            uint32_t asked[2];
+            memcpy(asked, bytes, sizeof asked);
+            seen += who->next_period(asked[0], asked[1]);
         } else {
             seen += (uint64_t)who->open(book, words, kind->facilities, kind->services, limits) << 40;
         }

@@ -176,12 +176,11 @@ static inline bool period_refused(int32_t now, int32_t period)
     return period <= now / 30 || period >= 48 * (now / 1440 + 7);
 }
 
-/* The least period of the slot that starts after now. */
-static inline int32_t next_period(int32_t now, int32_t slot)
+/* Of the week that ends with `last` none has begun, and one is the slot's: as many before `last` as the remainder says. */
+uint32_t plain_next_period(uint32_t minute, uint32_t slot)
 {
-    int32_t first = now / 30 + 1;
-    int32_t ahead = slot - first % SLOTS;
-    return first + (ahead < 0 ? ahead + SLOTS : ahead);
+    uint32_t last = minute / 30 + SLOTS;
+    return last - (last - slot) % SLOTS;
 }
 
 /* ---- offers: 11 to 16 ---- */
@@ -371,7 +370,7 @@ static int file_standing(const struct book *b, const uint8_t *r)
         return number;
     int32_t *cell = cell_of(b, r[6], r[7], 0, slot);
     if (cell[0] == 1) {
-        if (30 * next_period(b->now, slot) - b->now < 65)
+        if (30 * (int32_t)plain_next_period((uint32_t)b->now, (uint32_t)slot) - b->now < 65)
             return 17;
         if (is_same_offer(cell, o.words))
             return 18;

@@ -20,12 +20,12 @@ out=target/bench
 rm -rf "$out"
 mkdir -p "$out"
 
-# The plain book under the names NAME_call, NAME_open and NAME_record_test.
+# The plain book under the names NAME_call, NAME_open, NAME_record_test and NAME_next_period.
 plain() { # NAME COMPILER...
     local name=$1
     shift
     "$@" -std=c11 -Wall -Wextra -Werror -pedantic -Iinclude -Dplain_call="${name}_call" -Dplain_open="${name}_open" \
-        -Dplain_record_test="${name}_record_test" -c bench/plain_book.c -o "$out/$name.o"
+        -Dplain_record_test="${name}_record_test" -Dplain_next_period="${name}_next_period" -c bench/plain_book.c -o "$out/$name.o"
 }
 plain gcc_o2 gcc -O2
 plain gcc_o3 gcc -O3
@@ -104,8 +104,8 @@ awk -F'\t' '
             for (j = 1; j <= subjects; j++) figures[j] = median(order[i], subject[j])
             row(order[i], figures, "%.1f")
         }
-        printf "\nThe loop with a call that does nothing takes %.1f ns, with a record test that does nothing %.1f ns.\n", \
-            median("1 clock" FS "hot", "loop"), median("record test, look-up" FS "hot", "loop")
+        printf "\nThe loop with a call that does nothing takes %.1f ns, with a record test %.1f ns, with a next period %.1f ns.\n", \
+            median("1 clock" FS "hot", "loop"), median("record test, look-up" FS "hot", "loop"), median("next period" FS "hot", "loop")
         if (!counted) exit
         head("Instructions a call, by callgrind, the loop taken off:")
         for (i = 1; i <= rows; i++) {

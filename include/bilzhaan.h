@@ -15,7 +15,8 @@
  * - It allocates nothing, has no globals and may run in any number of threads at once, each on a book of its own.
  * - It always returns. It reads the words and bytes that it is lent and no others, and writes only the words.
  * - Its work is bounded: by the pairs of an offer for filings and look-ups, by the facilities for a total, by the
- *   112 bytes for the record test, by BILZHAAN_BOOK_WORDS for the opening. Never by megawatts, minutes or periods.
+ *   112 bytes for the record test, by BILZHAAN_BOOK_WORDS for the opening; a slot's next period is a division and a
+ *   remainder. Never by megawatts, minutes or periods.
  * - Whatever the words and bytes hold, the answer is the one that the documents give. A refused call returns zeros
  *   beside its number and leaves every word as it was; a refused opening leaves every word as it was.
  * - Look-ups (8), totals (9) and whatever is refused store nothing: for them the words may lie in read-only memory.
@@ -32,8 +33,8 @@
 
 /* ---- versions and sizes ---- */
 
-/* This header's version, 1.3.0: 10,000 times the first number, 100 times the second, and the third. */
-#define BILZHAAN_VERSION 10300
+/* This header's version, 1.4.0: 10,000 times the first number, 100 times the second, and the third. */
+#define BILZHAAN_VERSION 10400
 
 /* A book of another version than BILZHAAN_BOOK_VERSION, head word 1, is refused with 1. Nothing converts a stored book of
  * version 1, whose cells hold no minute: its host opens a new book and files again, from its own records, what was accepted,
@@ -228,6 +229,13 @@ uint32_t bilzhaan_record_test(const uint8_t *bytes, size_t count, int32_t facili
  * the last four are given for energy alone too. Words past the book's are never written. */
 uint32_t bilzhaan_open(int32_t *words, size_t count, int32_t facilities, int32_t services,
                        const int32_t limits[BILZHAAN_LIMITS]);
+
+/* The least period of `slot` that has not begun at `minute`, by which a standing offer over a held one is judged (17). At
+ * minute 30 * P period P has begun, so its slot's next is P + 336. No book is asked and nothing refused: any minute will
+ * do, past BILZHAAN_CLOCK_LAST too, and a slot of 336 or more is taken mod 336; a negative number, converted, is another
+ * minute or slot. The period, which fits an int32_t, may lie past the horizon (10).
+ * It is worked out by remainders alone, without a branch. */
+uint32_t bilzhaan_next_period(uint32_t minute, uint32_t slot);
 
 /* One of the nine calls on an opened book, `length` bytes of a record: the number, the 24 words and the sum. */
 struct bilzhaan_answer bilzhaan_call(int32_t *words, size_t count, const uint8_t *bytes, size_t length);

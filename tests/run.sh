@@ -1,6 +1,6 @@
 #!/usr/bin/env bash
-# Builds into target/ctest/ and runs the tests that call the library from C and C++: headers and archive, an installed copy, by
-# hand, vectors, random lists. Arguments: the static library, seconds of random lists (20), seed (1).
+# Builds into target/ctest/ and runs the tests that call the library from C and C++: headers and archive, machine code, an
+# installed copy, by hand, vectors, random lists. Arguments: the static library, seconds of random lists (20), seed (1).
 # Last line: 'N passed, M failed'.
 set -euo pipefail
 
@@ -11,7 +11,7 @@ seconds=${2:-20}
 seed=${3:-1}
 cd "$(dirname "$0")/.."
 
-for tool in gcc g++ nm awk python3; do
+for tool in gcc g++ nm objdump awk python3; do
     command -v "$tool" >/dev/null || { echo "$tool is not on the PATH" >&2; exit 2; }
 done
 
@@ -66,8 +66,8 @@ trap 'kill "$random" 2>/dev/null || :' EXIT
 symbols() { nm "$library" | awk "NF >= 2 { kind = \$(NF - 1); name = \$NF; if ($1) print name }"; }
 functions() {
     local found
-    found=$(symbols 'kind == "T" && name ~ /^bilzhaan_(call|open|record_test|version|book_version)$/') || return 1
-    [ "$(echo "$found" | wc -l)" -eq 5 ]
+    found=$(symbols 'kind == "T" && name ~ /^bilzhaan_(call|open|record_test|next_period|version|book_version)$/') || return 1
+    [ "$(echo "$found" | wc -l)" -eq 6 ]
 }
 calls_nothing() {
     local found
@@ -112,6 +112,7 @@ check "the header refuses pointers of 32 bits in C99" refused_with bilzhaan_layo
 check "the archive has the functions of the header" functions
 check "the library calls no allocator, nor anything but memory copies" calls_nothing
 check "the library has no writable globals" no_globals
+run tests/machine_code_test.py "$library"
 
 g++ -std=c++11 $warnings -O2 -Iinclude tests/c/header_test.cpp "$library" -o "$out/header_cpp_test"
 check "calls from C++" "$out/header_cpp_test"

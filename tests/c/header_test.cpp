@@ -1,4 +1,4 @@
-// The headers from C++, linked: a constant expression for a book's words, records written, an answer read.
+// The headers from C++, linked: a constant expression for a book's words, records written, an answer read, a slot's next period.
 #include "bilzhaan_record.h"
 
 #include <cstring>
@@ -38,5 +38,7 @@ int main()
         return 7;
     if (bilzhaan_version() != BILZHAAN_VERSION || bilzhaan_book_version() != BILZHAAN_BOOK_VERSION)
         return 8;
-    return std::strcmp(bilzhaan_number_text(answer.number), "Accepted.") == 0 ? 0 : 9;
+    if (bilzhaan_next_period(119, 4) != 4 || bilzhaan_next_period(120, 4) != 340)
+        return 9;
+    return std::strcmp(bilzhaan_number_text(answer.number), "Accepted.") == 0 ? 0 : 10;
 }

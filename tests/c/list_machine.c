@@ -288,17 +288,22 @@ static bool variation_passes_gate(const machine *m, rec r)
     return reason_holds(m, r, old, new) && same_prices(old, new);
 }
 
+/* "the least period of that slot not yet begun, at slot boundaries as well", where "begun (30·P ≤ now)": by counting */
+int64_t list_machine_next_period(int64_t minute, int64_t slot)
+{
+    int64_t next = slot;
+    while (30 * next <= minute)
+        next += 336;
+    return next;
+}
+
 /* "A standing offer over a held one (stamp 1) is refused inside 65 minutes of the slot's next period not yet begun,
  * reasons or not. A first one always passes the gate." */
 static bool standing_passes_gate(const machine *m, rec r)
 {
     if (!standing(m, facility_of(r), service_of(r), period_of(r)))
         return true;
-    int64_t minute = now(m);
-    int64_t next = period_of(r);
-    while (30 * next <= minute)
-        next += 336;
-    return 30 * next - minute >= 65;
+    return 30 * list_machine_next_period(now(m), period_of(r)) - now(m) >= 65;
 }
 
 /* ---- "Who draws which number": whether each applies, where no lower one does ---- */

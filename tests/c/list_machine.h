@@ -20,6 +20,9 @@ struct bilzhaan_answer list_machine_call(struct list_machine *m, const uint8_t *
 /* Refusals 2, 3 and 4, which the bytes, F and S alone decide; else 0. */
 int list_machine_record_number(const uint8_t *bytes, size_t length, int32_t facilities, int32_t services);
 
+/* A slot's next period, counted week by week from the slot's first; slots 0 to 335. */
+int64_t list_machine_next_period(int64_t minute, int64_t slot);
+
 void list_machine_close(struct list_machine *m);
 
 #endif

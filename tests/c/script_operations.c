@@ -138,6 +138,22 @@ static const char *test_record(struct books *b, const struct line *l, struct ans
     return NULL;
 }
 
+/* next minute slot = period: a slot's next period, which no book has a part in */
+static const char *next_period(struct books *b, const struct line *l, struct answers *a)
+{
+    (void)b;
+    int32_t minute, slot;
+    if (!read_word(l->arguments[0], &minute) || !read_word(l->arguments[1], &slot))
+        return "an argument is no number of 32 bits";
+    if (minute < 0 || minute > BILZHAAN_CLOCK_LAST || slot < 0 || slot >= BILZHAAN_WEEK_SLOTS)
+        return "no such minute or slot";
+    int64_t periods[BOOKS] = {bilzhaan_next_period((uint32_t)minute, (uint32_t)slot),
+                              plain_next_period((uint32_t)minute, (uint32_t)slot), list_machine_next_period(minute, slot)};
+    for (int i = 0; i < BOOKS; i++)
+        say(a, i, "%" PRId64, periods[i]);
+    return NULL;
+}
+
 /* write i v i v .. = : the host writes; the list machine, which is fed records alone, doesn't follow from here on */
 static const char *write_words(struct books *b, const struct line *l, struct answers *a)
 {
@@ -177,6 +193,7 @@ static const struct {
     {"open", 10, 10, open_books},
     {"call", 1, 1, call_books},
     {"test", 3, 3, test_record},
+    {"next", 2, 2, next_period},
     {"write", 2, SIZE_MAX, write_words},
     {"words", 0, 0, sum_words},
 };

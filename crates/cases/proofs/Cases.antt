@@ -5,7 +5,7 @@ use mathlib.Core.List.{List, [], _∷_, map}
 use lib.ListN.{getD, List·getD-map}
 use Rattle.offer_rules.specs.Gate.{same-prices-to}
 use Rattle.cases.specs.Records.{_at_}
-use Rattle.cases.specs.Cases.{Line, Case, answer-in, first-case, cases, EveryCase, RampsShown, CellWords}
+use Rattle.cases.specs.Cases.{Line, Case, answer-in, first-case, cases, EveryCase, RampsShown, CellWords, NextPeriods}
 use Rattle.cases.proofs.Computes.{computes}
 
 all-answered : map answer-in cases ≡ map (λ c. c .answered) cases
@@ -26,6 +26,10 @@ ramps-are-shown = (refl, refl)
 pub cell-words : CellWords
 unfolding computes CellWords
 cell-words = (refl, refl)
+
+pub next-periods : NextPeriods
+unfolding computes NextPeriods
+next-periods = (refl, refl, refl, refl, refl)
 
 -- "the 451st tenth differs", and none before it.
 pub the-451st-differs :

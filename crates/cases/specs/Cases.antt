@@ -1,10 +1,11 @@
--- The cases marked (p), and those of a variation taken back, of a link and of a fresh offer, as one table with one statement.
+-- The cases marked (p), and those of a variation taken back, of a link, of a fresh offer and of a slot's next period, as one table with one statement.
 use mathlib.Core.Path.{_≡_}
 use mathlib.Core.List.{List, [], _∷_, _++_}
 use Prim.Native.Nat.{ℕ, _+_}
 use lib.IntN.{ℤ, pos, negsuc}
 use lib.ListN.{getD, replicate}
 use Rattle.offer_rules.specs.Numbers.{word, zeros}
+use Rattle.offer_rules.specs.Time.{next-period}
 use Rattle.book_rules.specs.Words.{part, put, facility-place, cell-place, standing-half, variation-half, standing-stamp, opening-words}
 use Rattle.book_rules.specs.Force.{Answer}
 use Rattle.book_rules.specs.Book.{book-answer, book-run}
@@ -91,6 +92,10 @@ damaged-maximum = put (book-run opened-book (plant ∷ [])) (facility-place 0 + 
 -- Most rows start from the opened book: the calls before, the last call, its answer.
 abbrev row : List (List ℕ) → List ℕ → Line → Case
 row calls call line = record { book = opened-book; before = calls; last = call; answered = line }
+
+-- A slot's standing offer, and at a minute another over it.
+abbrev revised : ℕ → ℕ → Line → Case
+revised slot minute = row (plant ∷ (standing slot (700 at 4000 ∷ []) ∷ (clock minute ∷ []))) (standing slot (600 at 4000 ∷ []))
 
 abbrev pub first-case : Case
 first-case = row (plant ∷ []) (standing 4 (1300 at 4000 ∷ [])) (draws 16)
@@ -181,6 +186,12 @@ cases =
     ∷ record { book = put opened-book 1 (pos 1 ∷ []); before = []; last = plant; answered = draws 1 }
     ∷ record { book = put opened-book 1 (pos 2 ∷ []); before = []; last = plant; answered = passes }
     ∷ record { book = put opened-book 1 (pos 3 ∷ []); before = []; last = plant; answered = draws 1 }
+    -- 17 of a standing offer over a held one, by "the slot's next period not yet begun", "at slot boundaries as well": in the minute before a period, and in its first
+    ∷ revised 4 119 (draws 17)
+    ∷ revised 4 120 passes
+    ∷ revised 0 0 passes
+    ∷ revised 335 10049 (draws 17)
+    ∷ revised 335 10050 passes
     ∷ []
 
 -- Every row of the table holds.
@@ -199,3 +210,7 @@ RampsShown = (ramps-shown damaged-maximum (ramping 7 stands ∷ []) ≡ pos 7 �
 unfoldable pub CellWords : Type 0
 CellWords = (part (cell-place 1 1 0 0 standing-half 4) 4 (book-run damaged-maximum (clock 10 ∷ (ramping 7 stands ∷ []))) ≡ pos 1 ∷ (pos 0 ∷ (pos 70000 ∷ (pos 10 ∷ []))))
     × (part (cell-place 1 1 0 0 variation-half 4) 24 (book-run opened-book (clock 10 ∷ (both ++ (blank 0 ∷ [])))) ≡ zeros 24)
+
+-- A slot's next period in the minute before one of its periods, and in the first of it.
+unfoldable pub NextPeriods : Type 0
+NextPeriods = (next-period 119 4 ≡ 4) × (next-period 120 4 ≡ 340) × (next-period 0 0 ≡ 336) × (next-period 10049 335 ≡ 335) × (next-period 10050 335 ≡ 671)

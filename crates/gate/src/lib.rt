@@ -1,10 +1,9 @@
-// Gate closure, refusal 17: prices compared tenth by tenth, the reasons, and the slot's next period.
+// Gate closure, refusal 17: prices compared tenth by tenth, the reasons, and a standing offer's period.
 // Offers are lent as their pairs' words: price, quantity, price, quantity ..
 ghost use mathlib.Core.Path.{_≡_};
 ghost use Prim.Native.Nat.{_+_, _-_, _*_, _≤_, _<_};
 ghost use lib.ListN.{length};
 ghost use Rattle.offer_rules.specs.Numbers.{toNat, eqZ};
-ghost use Rattle.offer_rules.specs.Time.{next-period};
 ghost use Rattle.offer_rules.specs.Offer.{pairs-in};
 ghost use Rattle.offer_rules.specs.Gate.{total-tenths, same-prices, covers, is-open, reason-met, reason-holds, gate-refuses, standing-gate-refuses};
 ghost use Rattle.gate.specs.Differing.{first-differing};
@@ -14,6 +13,7 @@ use kinds::admits;
 use layout::facility;
 use layout::fields;
 use layout::time;
+use periods::bilzhaan_next_period;
 use units::Price;
 use units::Quantity;
 use units::nat;
@@ -238,19 +238,11 @@ pub fn gate_refuses(
     true
 }
 
-// "the slot's next period not yet begun"
-fn next_period(clock: u64, slot: u64) -> u64
-    requires { ⌜ (clock ≤ 1000000000) × (slot < 336) ⌝ }
-    ensures { λ r. ⌜ (r ≡ next-period clock slot) × (r < 2147483648) ⌝ }
-{
-    let first = clock / time::PERIOD_MINUTES + 1;
-    first + (slot + time::SLOTS - first % time::SLOTS) % time::SLOTS
-}
-
 // 17, of a standing offer over a held one.
 pub fn standing_gate_refuses(clock: u64, slot: u64) -> bool
     requires { ⌜ (clock ≤ 1000000000) × (slot < 336) ⌝ }
     ensures { λ r. ⌜ r ≡ standing-gate-refuses clock slot ⌝ }
 {
-    !is_before_closure(clock, next_period(clock, slot))
+    let next = bilzhaan_next_period(clock as u32, slot as u32);
+    !is_before_closure(clock, next as u64)
 }

@@ -1,14 +1,14 @@
 -- Periods that may be filed for, and the periods of one slot.
-use mathlib.Core.Path.{_≡_, refl}
+use mathlib.Core.Path.{_≡_, refl, sym, _∙_}
 use mathlib.Core.Logic.{_≢_}
-use mathlib.Core.Bool.{false, true≢false}
-use Prim.Native.Nat.{ℕ, _≤_, _<_}
+use mathlib.Core.Bool.{Bool, true, false, cond, true≢false}
+use Prim.Native.Nat.{ℕ, zero, suc, _+_, _*_, _-_, _/_, _%_, _≤_, _<_}
 use native.Mathlib.Omega.{arith}
 use lib.Dec.{ltb}
 use lib.IntN.{ℤ, pos, negsuc}
-use borrow.Author.Tests.{leb-false, ltb-false}
+use borrow.Author.Tests.{leb-true, leb-false, lt-leb, ltb-false}
 use Rattle.offer_rules.specs.Numbers.{toNat, beyond}
-use Rattle.offer_rules.specs.Time.{start-of, slots, slot-of, horizon-end, slot-refused, has-begun, past-horizon, period-refused, next-period}
+use Rattle.offer_rules.specs.Time.{start-of, slots, slot-of, horizon-end, slot-refused, has-begun, past-horizon, period-refused, IsNext, first-not-begun, next-period, NextIsLeast}
 use Rattle.offer_rules.proofs.Drawn.{or-left, or-right}
 
 -- A number that is not beyond two others lies between them.
@@ -23,6 +23,14 @@ slot-is (negsuc k) e = absurd (true≢false e)
 not-begun : (now p : ℕ) → has-begun now (pos p) ≡ false → now < start-of p
 unfolding has-begun
 not-begun now p e = omega (arith, leb-false)
+
+begun : (now p : ℕ) → has-begun now (pos p) ≡ true → start-of p ≤ now
+unfolding has-begun
+begun now p e = leb-true (start-of p) now e
+
+later-not-begun : (now p : ℕ) → now < start-of p → has-begun now (pos p) ≡ false
+unfolding has-begun
+later-not-begun now p h = lt-leb (start-of p) now h
 
 not-past : (now p : ℕ) → past-horizon now (pos p) ≡ false → p < horizon-end now
 unfolding past-horizon
@@ -45,15 +53,46 @@ period-is now (negsuc p) e = absurd (negative-begun now p (or-left (has-begun no
 pub one-of-a-slot : (now p q : ℕ) → now < start-of p → p < horizon-end now → now < start-of q → q ≢ p → slot-of q ≡ slot-of p → horizon-end now ≤ q
 one-of-a-slot now p q a b c n e = omega arith
 
--- The next period of a slot is of that slot, has not begun, and is the least such.
-pub next-of-slot : (now k : ℕ) → k < slots → slot-of (next-period now k) ≡ k
-unfolding next-period
-next-of-slot now k h = omega arith
+-- The least of a slot's periods that start after now is its next.
+pub starts-next : (now k p : ℕ) → slot-of p ≡ k → now < start-of p → ((q : ℕ) → slot-of q ≡ k → now < start-of q → p ≤ q) → IsNext now k p
+starts-next now k p e a l = record { of-the-slot = e; not-begun = later-not-begun now p a; least = λ q s b. l q s (not-begun now q b) }
 
-pub next-not-begun : (now k : ℕ) → now < start-of (next-period now k)
-unfolding next-period
-next-not-begun now k = omega arith
+chosen : (P : ℕ → Type 0) (t : Bool) {m n : ℕ} → (t ≡ true → P m) → (t ≡ false → P n) → P (cond t m n)
+chosen P true x y = x refl
+chosen P false x y = y refl
 
-pub next-is-least : (now k p : ℕ) → k < slots → slot-of p ≡ k → now < start-of p → next-period now k ≤ p
+-- Counted up by weeks from a period of the slot, as long as they have begun.
+counted-least : (weeks now k p : ℕ) → slot-of p ≡ k → ((q : ℕ) → slot-of q ≡ k → now < start-of q → p ≤ q) → now < start-of (p + weeks * slots)
+    → IsNext now k (first-not-begun weeks now p)
+unfolding first-not-begun
+counted-least zero now k p e l h = starts-next now k p e (omega arith) l
+counted-least (suc weeks) now k p e l h =
+    chosen (IsNext now k) _
+    (λ b. counted-least weeks now k (p + slots) (omega arith) (λ q s a. omega (arith, l q s a, begun _ _ b)) (omega arith))
+    (λ b. starts-next now k p e (not-begun _ _ b) l)
+
+-- What the rule counts is the least period of that slot not yet begun,
+pub next-is-least : NextIsLeast
 unfolding next-period
-next-is-least now k p h e a = omega arith
+next-is-least now k h = counted-least _ now k _ (omega arith) (λ q e a. omega arith) (omega arith)
+
+-- and no other period is. The code's promise is of slot-of k, which is k.
+own-slot : (k : ℕ) → k < slots → slot-of k ≡ k
+own-slot k h = omega arith
+
+pub next-is-one : (now k p : ℕ) → k < slots → IsNext now (slot-of k) p → p ≡ next-period now k
+next-is-one now k p h n = one (next-is-least now k h)
+  where
+    one : IsNext now k (next-period now k) → p ≡ next-period now k
+    one m = omega (arith, n .least _ (m .of-the-slot ∙ sym (own-slot k h)) (m .not-begun), m .least p (n .of-the-slot ∙ own-slot k h) (n .not-begun))
+
+-- By remainders: how far the slot lies after the first period not yet begun.
+pub next-by-remainders : (now k : ℕ) → k < slots → next-period now k ≡ now / 30 + 1 + (k + slots - slot-of (now / 30 + 1)) % slots
+next-by-remainders now k h = sym (next-is-one now k _ h (starts-next now (slot-of k) _ (omega arith) (omega arith) (λ q e a. least q (e ∙ own-slot k h) a)))
+  where
+    least : (q : ℕ) → slot-of q ≡ k → now < start-of q → now / 30 + 1 + (k + slots - slot-of (now / 30 + 1)) % slots ≤ q
+    least q e a = omega arith
+
+-- It is no later than the slot's period in the week after this minute's.
+pub next-is-near : (now k p : ℕ) → IsNext now (slot-of k) p → p ≤ slot-of k + slots * (now / start-of slots + 1)
+next-is-near now k p n = n .least (slot-of k + slots * (now / start-of slots + 1)) (omega arith) (later-not-begun now _ (omega arith))

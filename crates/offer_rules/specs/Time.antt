@@ -1,8 +1,9 @@
 -- Document 01, "Units and time".
 -- A price is whole cents per MWh, a quantity whole tenths of a MW, a ramp rate tenths of a MW per minute, a proportion thousandths.
 -- Time is whole minutes from the start of day 0, a Monday; `now` is the clock.
-use mathlib.Core.Bool.{Bool, true, false, _||_}
-use Prim.Native.Nat.{ℕ, _+_, _*_, _-_, _/_, _%_}
+use mathlib.Core.Path.{_≡_}
+use mathlib.Core.Bool.{Bool, true, false, cond, _||_}
+use Prim.Native.Nat.{ℕ, zero, suc, _+_, _*_, _/_, _%_, _≤_, _<_}
 use lib.Dec.{leb}
 use lib.IntN.{ℤ, pos, negsuc, _-ℤ_}
 use lib.Signed.{ltZ}
@@ -54,6 +55,20 @@ schedule-cutoff = pos 5
 unfoldable pub is-fresh : ℕ → ℤ → Bool
 is-fresh now minute = ltZ (pos now -ℤ minute) schedule-cutoff
 
--- "the slot's next period not yet begun": the least, by the laws of proofs/Periods.
+-- Document 02: "the least period of that slot not yet begun, at slot boundaries as well": by refusal 10 a period that starts at this minute has begun.
+pub record IsNext (now k p : ℕ) : Type 0 where
+  pub of-the-slot : slot-of p ≡ k
+  pub not-begun : has-begun now (pos p) ≡ false
+  pub least : (q : ℕ) → slot-of q ≡ k → has-begun now (pos q) ≡ false → p ≤ q
+
+-- "the slot's next period not yet begun": the first of k, k + 336, k + 672 .. that has not. At most now + 1 of them have.
+unfoldable pub first-not-begun : ℕ → ℕ → ℕ → ℕ
+first-not-begun zero now p = p
+first-not-begun (suc weeks) now p = cond (has-begun now (pos p)) (first-not-begun weeks now (p + slots)) p
+
 unfoldable pub next-period : ℕ → ℕ → ℕ
-next-period now k = now / 30 + 1 + (k + slots - slot-of (now / 30 + 1)) % slots
+next-period now k = first-not-begun (suc now) now k
+
+-- "For every slot 0 to 335 and minute .. it gives the least": what is counted is what the sentence asks (proofs/Periods, next-is-least).
+abbrev pub NextIsLeast : Type 0
+NextIsLeast = (now k : ℕ) → k < slots → IsNext now k (next-period now k)

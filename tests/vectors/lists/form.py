@@ -4,7 +4,7 @@ Each line is written with the number that the papers give it, and each look-up a
 author read them. make.py compares them with the answers.
 """
 
-LEVEL = 3  # document 02's requests up to K3
+LEVEL = 4  # document 02's requests up to K4
 
 LIMITS = (-450000, 450000, 400000, 400001, 400002, 400003)
 
@@ -152,6 +152,9 @@ class Script:
 
     def test(self, r, F, S, number):
         self._line(f'test {r.hex() or "-"} {F} {S} =', str(number))
+
+    def next(self, minute, slot, period):
+        self._line(f'next {minute} {slot} =', str(period))
 
     def write(self, words):
         self._line('write ' + ' '.join(f'{i} {value}' for i, value in words.items()) + ' =', '')
