@@ -1,11 +1,11 @@
-// Gate closure, refusal 17: prices compared tenth by tenth, the reasons, and a standing offer's period.
+// Gate closure, refusal 17: prices compared tenth by tenth, and the reasons.
 // Offers are lent as their pairs' words: price, quantity, price, quantity ..
 ghost use mathlib.Core.Path.{_≡_};
 ghost use Prim.Native.Nat.{_+_, _-_, _*_, _≤_, _<_};
 ghost use lib.ListN.{length};
 ghost use Rattle.offer_rules.specs.Numbers.{toNat, eqZ};
 ghost use Rattle.offer_rules.specs.Offer.{pairs-in};
-ghost use Rattle.offer_rules.specs.Gate.{total-tenths, same-prices, covers, is-open, reason-met, reason-holds, gate-refuses, standing-gate-refuses};
+ghost use Rattle.offer_rules.specs.Gate.{total-tenths, same-prices, covers, is-open, reason-met, reason-holds, gate-refuses};
 ghost use Rattle.gate.specs.Differing.{first-differing};
 ghost use Rattle.gate.specs.Merging.{left-of, alike, differ, merged};
 ghost use Rattle.gate.specs.Meaning.{window-of, grounds-of};
@@ -13,7 +13,6 @@ use kinds::admits;
 use layout::facility;
 use layout::fields;
 use layout::time;
-use periods::bilzhaan_next_period;
 use units::Price;
 use units::Quantity;
 use units::nat;
@@ -216,7 +215,7 @@ fn is_allowed(g: Grounds, service: u8, period: u64, reason: u8, old: &[i32], new
     is_reason_met(g, service, period, 0, 0, reason)
 }
 
-// 17, of a variation; old holds no pairs where no offer is in force.
+// 17, of a variation and of a standing offer over a held one; old holds no pairs where no offer is in force.
 pub fn gate_refuses(
     clock: u64,
     g: Grounds,
@@ -236,13 +235,4 @@ pub fn gate_refuses(
         return !same_prices(old, new);
     }
     true
-}
-
-// 17, of a standing offer over a held one.
-pub fn standing_gate_refuses(clock: u64, slot: u64) -> bool
-    requires { ⌜ (clock ≤ 1000000000) × (slot < 336) ⌝ }
-    ensures { λ r. ⌜ r ≡ standing-gate-refuses clock slot ⌝ }
-{
-    let next = bilzhaan_next_period(clock as u32, slot as u32);
-    !is_before_closure(clock, next as u64)
 }

@@ -4,10 +4,11 @@ ghost use mathlib.Core.Path.{_≡_};
 ghost use Prim.Native.Nat.{_+_, _≤_, _<_};
 ghost use lib.ListN.{length};
 ghost use Rattle.offer_rules.specs.Numbers.{toNat, word};
+ghost use Rattle.offer_rules.specs.Time.{next-period};
 ghost use Rattle.offer_rules.specs.Offer.{pairs-in, pairs, all-blank, offer-number};
 ghost use Rattle.book_rules.specs.Words.{part, clock-place, limits-place, facility-place};
 ghost use Rattle.book_rules.specs.Force.{in-force, will-stand, pairs-of};
-ghost use Rattle.book_rules.specs.Refusals.{facility-number, gate-number, period-number, admission-number, admitted-standing, grounds};
+ghost use Rattle.book_rules.specs.Refusals.{facility-number, gate-number, period-number, admission-number, revision-number, admitted-standing, grounds};
 ghost use Rattle.book_rules.specs.Book.{facilities-in, services-in, window-in, book-view};
 ghost use Rattle.offers.specs.PairTests.{UsesFive};
 ghost use Rattle.gate.specs.Meaning.{window-of, grounds-of};
@@ -26,6 +27,7 @@ use layout::facility;
 use layout::head;
 use layout::offer;
 use layout::refusal;
+use periods::bilzhaan_next_period;
 use refusals::draw_if;
 use refusals::first_drawn;
 use units::nat;
@@ -117,30 +119,6 @@ pub fn offer_number(book: &[i32], f: usize, service: u8, reason: u8, offer: &[i3
         reason,
         offer,
     )
-}
-
-// 11 to 18 of a standing offer that is admitted: "A first one always passes the gate."
-pub fn admitted_standing(book: &[i32], f: usize, service: u8, slot: usize, offer: &[i32]) -> u8
-    requires { ⌜ Usable (now book) × (f < facilities-in (now book)) × (service < services-in (now book)) × (slot < 336) × (length (now offer) ≡ 23) × UsesFive service (now offer) ⌝ }
-    ensures { λ r. ⌜ (r ≡ admitted-standing (book-view (now (book .entry))) f service slot (now (offer .entry))) × (r ≤ 18) ⌝ }
-{
-    let number = offer_number(book, f, service, 0, offer);
-    if number != 0 {
-        return number;
-    }
-    let held = held_standing(
-        book,
-        facilities(book),
-        services(book),
-        f,
-        wide(service),
-        slot,
-    );
-    if is_nothing(held) {
-        return 0;
-    }
-    let same = is_same_offer(book, held, offer);
-    refusals::revision_number(clock(book), slot as u64, same)
 }
 
 // ---- the gate
@@ -259,4 +237,65 @@ pub fn variation_gate_number<'a>(
     let old = pairs_before(book, f, service, period);
     let new = pairs_afterwards(book, f, service, period, offer, blank);
     gate_number(book, f, service, period, reason, old, new)
+}
+
+// ---- a standing offer over a held one
+
+// "the slot's next period not yet begun"
+fn next_period(book: &[i32], slot: usize) -> usize
+    requires { ⌜ Usable (now book) × (slot < 336) ⌝ }
+    ensures { λ r. ⌜ (r ≡ next-period (toNat (word (now (book .entry)) clock-place)) slot) × (r < 2147483647) ⌝ }
+{
+    let next = bilzhaan_next_period(clock(book) as u32, slot as u32);
+    next as usize
+}
+
+// 17, then 18 where it is equal to the held one. "A first one always passes the gate."
+fn revision_number(
+    book: &[i32],
+    f: usize,
+    service: u8,
+    slot: usize,
+    reason: u8,
+    offer: &[i32],
+) -> u8
+    requires { ⌜ Usable (now book) × (f < facilities-in (now book)) × (service < services-in (now book)) × (slot < 336) × (length (now offer) ≡ 23) ⌝ }
+    ensures { λ r. ⌜ (r ≡ revision-number (toNat (word (now (book .entry)) clock-place)) (grounds (book-view (now (book .entry))) f) service slot reason (book-view (now (book .entry)) .standing f service slot) (now (offer .entry))) × (r ≤ 18) ⌝ }
+{
+    let held = held_standing(
+        book,
+        facilities(book),
+        services(book),
+        f,
+        wide(service),
+        slot,
+    );
+    if is_nothing(held) {
+        return 0;
+    }
+    let next = next_period(book, slot);
+    let old = pairs_of(book, held);
+    let new = &offer[offer::PAIRS..];
+    let gate = gate_number(book, f, service, next, reason, old, new);
+    let same = is_same_offer(book, held, offer);
+    first_drawn(gate, draw_if(same, refusal::DUPLICATE))
+}
+
+// 11 to 18 of a standing offer that is admitted.
+pub fn admitted_standing(
+    book: &[i32],
+    f: usize,
+    service: u8,
+    slot: usize,
+    reason: u8,
+    offer: &[i32],
+) -> u8
+    requires { ⌜ Usable (now book) × (f < facilities-in (now book)) × (service < services-in (now book)) × (slot < 336) × (length (now offer) ≡ 23) × UsesFive service (now offer) ⌝ }
+    ensures { λ r. ⌜ (r ≡ admitted-standing (book-view (now (book .entry))) f service slot reason (now (offer .entry))) × (r ≤ 18) ⌝ }
+{
+    let number = offer_number(book, f, service, reason, offer);
+    if number != 0 {
+        return number;
+    }
+    revision_number(book, f, service, slot, reason, offer)
 }

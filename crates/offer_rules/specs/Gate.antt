@@ -6,7 +6,7 @@ use lib.Dec.{leb, ltb, eqb}
 use lib.IntN.{ℤ, pos}
 use lib.Signed.{leZ}
 use Rattle.offer_rules.specs.Numbers.{eqZ, toNat}
-use Rattle.offer_rules.specs.Time.{start-of, next-period}
+use Rattle.offer_rules.specs.Time.{start-of}
 use Rattle.offer_rules.specs.Kinds.{admits}
 use Rattle.offer_rules.specs.Offer.{Pair, is-energy}
 
@@ -68,11 +68,8 @@ gate-minutes = 65
 abbrev pub is-open : ℕ → ℕ → Bool
 is-open now p = leb (now + gate-minutes) (start-of p)
 
--- 17, of a variation: old is the offer in force before the call, new the one that will stand for p after it.
+-- 17, of a variation and of a standing offer over a held one: "The reasons and the tenth-by-tenth price condition are those of a variation" (document 02).
+-- Which p, old and new each is judged by is in book_rules, Refusals.
 unfoldable pub gate-refuses : ℕ → Grounds → ℕ → ℕ → ℕ → List Pair → List Pair → Bool
 gate-refuses now g s p reason old new =
     not (is-open now p || (reason-holds g s p (total-tenths old) (total-tenths new) reason && same-prices old new))
-
--- 17, of a standing offer over a held one: "refused inside 65 minutes of the slot's next period not yet begun, reasons or not".
-unfoldable pub standing-gate-refuses : ℕ → ℕ → Bool
-standing-gate-refuses now k = not (is-open now (next-period now k))

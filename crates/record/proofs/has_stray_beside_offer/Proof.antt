@@ -35,9 +35,9 @@ any-set-requires-6 c κs = search needs
 any-set-requires-7 : tie.Need-any-set-requires-7
 any-set-requires-7 c κs = search needs
 
-energy-stray : (t : ℕ) (b : List ℕ) → t ≡ 0 → length b ≡ 112 → (any-set b 13 3 || any-set b 24 8) ≡ any-stray (used 4 t) 6 (drop 6 b)
+energy-stray : (t : ℕ) (b : List ℕ) → t ≡ 0 → length b ≡ 112 → (any-set b 13 3 || any-set b 24 8) ≡ any-stray (used 3 t) 6 (drop 6 b)
 unfolding used set-in-gaps set-or gap-bytes unused-bytes used-by-offer
-energy-stray t b e n = stray-in-gaps (used 4 t) (used 4 0) b (gap _ _ ∷ (gap _ _ ∷ [])) n (λ i. rw e) refl
+energy-stray t b e n = stray-in-gaps (used 3 t) (used 3 0) b (gap _ _ ∷ (gap _ _ ∷ [])) n (λ i. rw e) refl
 
 returns : tie.Need-returns
 returns c =
@@ -54,14 +54,14 @@ unfolding used-by-offer used set-in-gaps set-or gap-bytes unused-bytes
 returns-3 c =
     let s = c .before .before .before .before .before .before in
     let t = s .args .service in
-    rw (c .any-set5 .ensures, c .before .any-set4 .ensures, c .before .before .any-set3 .ensures) (stray-in-gaps (used 4 t) (used 4 1) (s .args .bytes .now) (gap _ _ ∷ (gap _ _ ∷ (gap _ _ ∷ []))) (s .pre) (λ i. rw (ne-eqb t 0 (λ e. omega arith), lt-ltb t 4 (omega arith))) refl)
+    rw (c .any-set5 .ensures, c .before .any-set4 .ensures, c .before .before .any-set3 .ensures) (stray-in-gaps (used 3 t) (used 3 1) (s .args .bytes .now) (gap _ _ ∷ (gap _ _ ∷ (gap _ _ ∷ []))) (s .pre) (λ i. rw (ne-eqb t 0 (λ e. omega arith), lt-ltb t 4 (omega arith))) refl)
 
 returns-4 : tie.Need-returns-4
 unfolding used-by-offer used set-in-gaps set-or gap-bytes unused-bytes
 returns-4 c =
     let s = c .before .before .before .before .before in
     let t = s .args .service in
-    rw (c .any-set7 .ensures, c .before .any-set6 .ensures) (stray-in-gaps (used 4 t) (used 4 4) (s .args .bytes .now) (gap _ _ ∷ (gap _ _ ∷ [])) (s .pre) (λ i. rw (ne-eqb t 0 (λ e. omega arith), le-ltb t 4 (omega arith))) refl)
+    rw (c .any-set7 .ensures, c .before .any-set6 .ensures) (stray-in-gaps (used 3 t) (used 3 4) (s .args .bytes .now) (gap _ _ ∷ (gap _ _ ∷ [])) (s .pre) (λ i. rw (ne-eqb t 0 (λ e. omega arith), le-ltb t 4 (omega arith))) refl)
 
 pub has-stray-beside-offer-spec : {M : Type 1} → statement M
 has-stray-beside-offer-spec =
