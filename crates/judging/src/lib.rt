@@ -12,7 +12,9 @@ ghost use Rattle.book_rules.specs.Refusals.{facility-number, gate-number, perio
 ghost use Rattle.book_rules.specs.Book.{facilities-in, services-in, window-in, book-view};
 ghost use Rattle.offers.specs.PairTests.{UsesFive};
 ghost use Rattle.gate.specs.Meaning.{window-of, grounds-of};
+ghost use Rattle.cells.specs.Meaning.{meaning, end-of};
 ghost use Rattle.judging.specs.Usable.{Usable};
+use cells::InForce;
 use cells::held_standing;
 use cells::in_force;
 use cells::is_nothing;
@@ -250,6 +252,28 @@ fn next_period(book: &[i32], slot: usize) -> usize
     next as usize
 }
 
+// 17 of a standing offer over the held one. Before closure, where most are filed, no prices are compared.
+fn standing_gate_number(
+    book: &[i32],
+    f: usize,
+    service: u8,
+    slot: usize,
+    reason: u8,
+    held: InForce,
+    offer: &[i32],
+) -> u8
+    requires { ⌜ Usable (now book) × (f < facilities-in (now book)) × (slot < 336) × (end-of held ≤ length (now book)) × (length (now offer) ≡ 23) ⌝ }
+    ensures { λ r. ⌜ (r ≡ gate-number (toNat (word (now (book .entry)) clock-place)) (grounds (book-view (now (book .entry))) f) service (next-period (toNat (word (now (book .entry)) clock-place)) slot) reason (pairs-of (meaning (now (book .entry)) held)) (pairs (now (offer .entry)))) × (r ≤ 17) ⌝ }
+{
+    let next = next_period(book, slot);
+    if is_before_closure(clock(book), next as u64) {
+        return 0;
+    }
+    let old = pairs_of(book, held);
+    let new = &offer[offer::PAIRS..];
+    gate_number(book, f, service, next, reason, old, new)
+}
+
 // 17, then 18 where it is equal to the held one. "A first one always passes the gate."
 fn revision_number(
     book: &[i32],
@@ -273,12 +297,11 @@ fn revision_number(
     if is_nothing(held) {
         return 0;
     }
-    let next = next_period(book, slot);
-    let old = pairs_of(book, held);
-    let new = &offer[offer::PAIRS..];
-    let gate = gate_number(book, f, service, next, reason, old, new);
-    let same = is_same_offer(book, held, offer);
-    first_drawn(gate, draw_if(same, refusal::DUPLICATE))
+    let gate = standing_gate_number(book, f, service, slot, reason, held, offer);
+    if gate != 0 {
+        return gate;
+    }
+    draw_if(is_same_offer(book, held, offer), refusal::DUPLICATE)
 }
 
 // 11 to 18 of a standing offer that is admitted.

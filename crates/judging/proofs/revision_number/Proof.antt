@@ -1,5 +1,5 @@
 -- revision_number: none held, or the gate at the slot's next period and then the duplicate.
-use mathlib.Core.Path.{_≡_, sym, _∙_, ap, ap₂}
+use mathlib.Core.Path.{_≡_, sym, _∙_, ap}
 use mathlib.Core.Bool.{Bool}
 use mathlib.Core.Option.{Option, none}
 use Prim.Native.Nat.{ℕ}
@@ -8,11 +8,11 @@ use Rattle.offer_rules.specs.Numbers.{toNat, word, draw, _then_}
 use Rattle.offer_rules.specs.Time.{next-period}
 use Rattle.offer_rules.specs.Offer.{Held, pairs}
 use Rattle.book_rules.specs.Words.{clock-place}
-use Rattle.offers.proofs.Pairing.{pairs-lent}
+use Rattle.units.proofs.Chains.{then-none, then-drawn}
 use Rattle.book_rules.specs.Force.{first-of, pairs-of}
 use Rattle.book_rules.specs.Refusals.{grounds, gate-number, revision-number}
 use Rattle.book_rules.specs.Book.{book-view}
-use Rattle.cells.specs.Meaning.{meaning}
+use Rattle.cells.specs.Meaning.{meaning, is-same-offer}
 use Rattle.judging.proofs.Stages.{nothing-held, one-held}
 use borrow.Author.Needs.{needs}
 use Rattle.judging.proofs.revision_number.Statement.{statement}
@@ -24,6 +24,17 @@ found : (c : tie.After-held-standing) → let s = c .before .before .before .bef
 found c =
     let s = c .before .before .before .before in
     c .held-standing .ensures .0 ∙ ap (λ (n : ℕ). first-of none (book-view (s .args .book .now) .standing (s .args .f) n (s .args .slot))) (c .before .wide .ensures)
+
+-- 17 and 18 over it.
+over-one-held : (c : tie.Else1) → let h = c .before .before in let s = h .before .before .before .before in
+    let w = s .args .book .now in let now = toNat (word w clock-place) in let g = grounds (book-view w) (s .args .f) in let old = meaning w (h .held-standing .result) in let o = s .args .offer .now in
+    (gate-number now g (s .args .service) (next-period now (s .args .slot)) (s .args .reason) (pairs-of old) (pairs o) then draw (is-same-offer old o) 18)
+    ≡ revision-number now g (s .args .service) (s .args .slot) (s .args .reason) (book-view w .standing (s .args .f) (s .args .service) (s .args .slot)) o
+over-one-held c =
+    let h = c .before .before in
+    let s = h .before .before .before .before in
+    let w = s .args .book .now in
+    one-held w (h .held-standing .result) _ (toNat (word w clock-place)) (grounds (book-view w) (s .args .f)) (s .args .service) (s .args .slot) (s .args .reason) (s .args .offer .now) (found h) (sym (c .before .is-nothing .ensures) ∙ c .if1 .left)
 
 facilities-requires : tie.Need-facilities-requires
 facilities-requires c κs = search needs
@@ -51,23 +62,13 @@ returns c =
     let held = nothing-held w (h .held-standing .result) _ (found h) (sym (c .before .is-nothing .ensures) ∙ c .if1 .taken) in
     (sym (ap (λ (x : Option Held). revision-number (toNat (word w clock-place)) (grounds (book-view w) (s .args .f)) (s .args .service) (s .args .slot) (s .args .reason) x (s .args .offer .now)) held), omega arith)
 
-next-period-requires : tie.Need-next-period-requires
-next-period-requires c κs = search needs
+standing-gate-number-requires : tie.Need-standing-gate-number-requires
+standing-gate-number-requires c κs = search needs
 
-pairs-of-requires : tie.Need-pairs-of-requires
-pairs-of-requires c κs = search needs
-
-sub-new : tie.Need-sub-new
-sub-new c = search needs
-
-part-new-start : tie.Need-part-new-start
-part-new-start c = search needs
-
-part-new-end : tie.Need-part-new-end
-part-new-end c = search needs
-
-gate-number-requires : tie.Need-gate-number-requires
-gate-number-requires c κs = search needs
+returns-2 : tie.Need-returns-2
+returns-2 c =
+    let gate = c .before .standing-gate-number in
+    (gate .ensures .0 ∙ sym (then-drawn _ _ (λ z. c .if2 .taken (gate .ensures .0 ∙ z))) ∙ over-one-held (c .before .before), omega (arith, gate .ensures .1))
 
 is-same-offer-requires : tie.Need-is-same-offer-requires
 is-same-offer-requires c κs = search needs
@@ -75,25 +76,14 @@ is-same-offer-requires c κs = search needs
 draw-if-requires : tie.Need-draw-if-requires
 draw-if-requires c κs = search needs
 
-first-drawn-requires : tie.Need-first-drawn-requires
-first-drawn-requires c κs = search needs
-
-returns-2 : tie.Need-returns-2
-returns-2 c =
-    let same = c .before .before .is-same-offer in
-    let gate = c .before .before .before .gate-number in
-    let next = c .before .before .before .before .before .before .next-period in
-    let h = c .before .before .before .before .before .before .before .before .before in
-    let s = h .before .before .before .before in
-    let w = s .args .book .now in
-    let o = s .args .offer .now in
-    let now = toNat (word w clock-place) in
-    let g = grounds (book-view w) (s .args .f) in
-    let drawn-17 : gate .result ≡ gate-number now g (s .args .service) (next-period now (s .args .slot)) (s .args .reason) (pairs-of (meaning w (h .held-standing .result))) (pairs o) =
-    gate .ensures .0 ∙ (λ i. gate-number now g (s .args .service) (next .ensures .0 i) (s .args .reason) (c .before .before .before .before .before .pairs-of .ensures .0 i) (pairs-lent o i)) in
-    let drawn-18 = c .before .draw-if .ensures .0 ∙ ap (λ (t : Bool). draw t 18) (same .ensures) in
-    let held = one-held w (h .held-standing .result) _ now g (s .args .service) (s .args .slot) (s .args .reason) o (found h) (sym (c .before .before .before .before .before .before .before .before .is-nothing .ensures) ∙ c .before .before .before .before .before .before .before .if1 .left) in
-    (c .first-drawn .ensures .0 ∙ ap₂ _then_ drawn-17 drawn-18 ∙ held, omega (arith, c .first-drawn .ensures .1, gate .ensures .1, c .before .draw-if .ensures .1))
+returns-3 : tie.Need-returns-3
+returns-3 c =
+    let gate = c .before .before .before .standing-gate-number in (
+      c .draw-if .ensures .0 ∙ ap (λ (t : Bool). draw t 18) (c .before .is-same-offer .ensures)
+          ∙ sym (then-none _ _ (sym (gate .ensures .0) ∙ c .before .before .if2 .left))
+          ∙ over-one-held (c .before .before .before .before),
+      c .draw-if .ensures .1,
+    )
 
 pub revision-number-spec : {M : Type 1} → statement M
 revision-number-spec =
@@ -105,13 +95,8 @@ revision-number-spec =
     held-standing-requires
     is-nothing-requires
     returns
-    next-period-requires
-    pairs-of-requires
-    sub-new
-    part-new-start
-    part-new-end
-    gate-number-requires
+    standing-gate-number-requires
+    returns-2
     is-same-offer-requires
     draw-if-requires
-    first-drawn-requires
-    returns-2)
+    returns-3)
