@@ -232,10 +232,11 @@ uint32_t bilzhaan_record_test(const uint8_t *bytes, size_t count, int32_t facili
 uint32_t bilzhaan_open(int32_t *words, size_t count, int32_t facilities, int32_t services,
                        const int32_t limits[BILZHAAN_LIMITS]);
 
-/* The least period of `slot` that has not begun at `minute`: for a standing offer over a held one the gate (17) asks about this
- * period, for its minutes, its notices and its outage. At minute 30 * P period P has begun, so its slot's next is P + 336. No book is asked and nothing refused: any minute will
- * do, past BILZHAAN_CLOCK_LAST too, and a slot of 336 or more is taken mod 336; a negative number, converted, is another
- * minute or slot. The period, which fits an int32_t, may lie past the horizon (10).
+/* The least period of `slot` that has not begun at `minute`. The gate (17) asks about it for a standing offer over a held one:
+ * how many minutes are left, and which notices and outage hold. At minute 30 * P period P has begun, so its slot's next is
+ * P + 336. No book is asked and nothing refused: any minute will do, past BILZHAAN_CLOCK_LAST too, and a slot of 336 or more
+ * is taken mod 336; a negative number, converted, is another minute or slot. The period, which fits an int32_t, may lie past
+ * the horizon (10).
  * It is worked out by remainders alone, without a branch. */
 uint32_t bilzhaan_next_period(uint32_t minute, uint32_t slot);
 
