@@ -299,23 +299,21 @@ static bool gate_refuses(const struct book *b, const uint8_t *r, int32_t period,
     int s = r[7], reason = r[12];
     if (!has_bit(kinds[block[0]].reasons, reason)) /* 0 is in no kind's */
         return true;
-    bool varies = r[5] == 4;
+    bool varies = r[5] == 4, takes_back = varies && o->total == 0;
     const int32_t *old = varies ? in_force(b, r[6], s, period) : held_standing(b, r[6], s, period % SLOTS);
-    int64_t old_total = gate_total(old);
-    const int32_t *new = o->words;
-    int64_t new_total = o->total;
-    if (varies && o->total == 0) { /* taken back: what stands then is the standing offer, which may be damaged */
-        new = held_standing(b, r[6], s, period % SLOTS);
-        new_total = gate_total(new);
-    }
+    /* after a take-back the standing offer stands, which may be damaged */
+    const int32_t *new = takes_back ? held_standing(b, r[6], s, period % SLOTS) : o->words;
+    int64_t rise = 0;
+    if (reason >= 3 && reason <= 5)
+        rise = (takes_back ? gate_total(new) : o->total) - gate_total(old);
     const int32_t *notices = b->words + HEAD_NOTICES;
     bool holds = true;
     switch (reason) {
     case 2:
     case 6: holds = in_window(block + BLOCK_OUTAGE, period); break;
-    case 3: holds = s == 0 && in_window(notices, period) && new_total < old_total; break;
-    case 4: holds = in_window(notices + 2, period) && new_total > old_total; break;
-    case 5: holds = in_window(notices + 4, period) && new_total > old_total; break;
+    case 3: holds = s == 0 && in_window(notices, period) && rise < 0; break;
+    case 4: holds = in_window(notices + 2, period) && rise > 0; break;
+    case 5: holds = in_window(notices + 4, period) && rise > 0; break;
     }
     return !holds || (old && new && !same_prices(old, new));
 }
