@@ -100,6 +100,9 @@ static void windows(void)
             EQUAL(number_of(&b, clock_at(30 * next - 64)), 0);
             EQUAL(number_of(&b, notice_of(4, next + aside[i], next + aside[i])), 0);
             EQUAL(number_of(&b, stood(4, 60)), aside[i] == 0 ? 0 : BILZHAAN_GATE_CLOSED);
+            EQUAL(number_of(&b, stood(2, 40)), BILZHAAN_GATE_CLOSED);
+            EQUAL(number_of(&b, outage_of(0, 30 * next - 64, 3)), 0); /* it ends with that period */
+            EQUAL(number_of(&b, stood(2, 40)), 0);
         }
     /* slots 0 and 1 late on a Sunday look to 336 and 337; slot 335 to this week's last period */
     static const int32_t slots[] = {335, 0, 1};

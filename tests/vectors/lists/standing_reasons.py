@@ -576,11 +576,12 @@ def falling_prices_held(t):
 
 def stamps_that_hold_nothing(t):
     """A standing cell whose stamp isn't 1 holds nothing: what is filed there is a first, with any reason and price."""
-    for reason, stamp in enumerate((0, 2, 101, -1, 257, LEAST, MOST)):
-        _held(t, 2950)
-        t.write({STANDING_AT: stamp})
-        t.call(_again(0, 0, 100, [(1, 800)], 7), 11)
-        t.call(_again(0, 0, 100, [(1, 800)], reason))
+    _held(t, 2950)
+    for stamp in (0, 2, 101, -1, 257, LEAST, MOST):
+        for reason in range(7):
+            t.write({STANDING_AT: stamp})
+            t.call(_again(0, 0, 100, [(1, 800)], 7), 11)
+            t.call(_again(0, 0, 100, [(1, 800)], reason))
         t.call(_again(0, 0, 100, [(2, 800)], 1), 17)
     t.words()
 
