@@ -9,13 +9,31 @@ def _again(f, s, slot, pairs, reason=0):
     return standing(f, s, slot, pairs, filler(s), reason=reason)
 
 
-def _held(t, now, pairs=(*HELD,), sizes=(1, 1)):
+def _of_each_kind(t):
+    """Facility 0 is a generation, 1 a load and 2 a link."""
+    t.open(3, 5)
+    for f, w in enumerate((GENERATION, LOAD, LINK)):
+        t.call(capability(f, w))
+
+
+def _notices(t, first, last):
+    for kind in (3, 4, 5):
+        t.call(notice(kind, first, last))
+
+
+def _shut_over_50_tenths(t, f, s, period):
+    """Half an hour before the period, over an offer of 50 tenths and with an outage over it, which a link can't have."""
+    t.call(clock(30 * period - 30))
+    t.call(_again(f, s, period, [(1, 50)]))
+    t.call(outage(f, 30 * period - 30, 1), 7 if f == 2 else 0)
+
+
+def _held(t, now, pairs=HELD, sizes=(1, 1)):
     """Generation's energy offer for slot 100, filed with the gate open; every notice over period 100 and an outage window from 98 to 100; the clock at `now`."""
     t.open(*sizes)
     t.call(capability(0, GENERATION))
     t.call(standing(0, 0, 100, pairs))
-    for kind in (3, 4, 5):
-        t.call(notice(kind, 100, 100))
+    _notices(t, 100, 100)
     t.call(clock(2935))
     t.call(outage(0, 2935, 3))
     t.call(clock(now))
@@ -76,9 +94,7 @@ def with_minutes_left(t):
 
 def first_ones_inside_the_gate(t):
     """A first standing offer passes the gate with any reason from 0 to 6, whatever its kind and without any window; 7 and above draw 11."""
-    t.open(3, 5)
-    for f, w in enumerate((GENERATION, LOAD, LINK)):
-        t.call(capability(f, w))
+    _of_each_kind(t)
     for reason in (*range(9), 128, 255):
         slot = 10 + reason
         t.call(clock(30 * slot - 1))
@@ -90,9 +106,7 @@ def first_ones_inside_the_gate(t):
 
 def open_ones(t):
     """Over a held offer with 65 minutes left any reason from 0 to 6 passes, whatever its kind, its windows and its prices; 7 and above draw 11."""
-    t.open(3, 5)
-    for f, w in enumerate((GENERATION, LOAD, LINK)):
-        t.call(capability(f, w))
+    _of_each_kind(t)
     t.call(clock(2935))
     for f, s in ((0, 0), (0, 2), (0, 4), (1, 1), (2, 0)):
         t.call(_again(f, s, 100, [(1, 5)]))
@@ -108,19 +122,14 @@ def open_ones(t):
 
 def reasons_of_standing_offers_by_kind(t):
     """Each reason inside the gate by kind and service, every window over the period: less, as much and more than the held 50 tenths."""
-    t.open(3, 5)
-    for f, w in enumerate((GENERATION, LOAD, LINK)):
-        t.call(capability(f, w))
-    for kind in (3, 4, 5):
-        t.call(notice(kind, 0, 40_000_000))
+    _of_each_kind(t)
+    _notices(t, 0, 40_000_000)
     period = 1
     for f, s in ((0, 0), (0, 1), (0, 4), (1, 1), (1, 3), (2, 0)):
         for reason in range(7):
             for quantity in (40, 50, 60):
                 period += 1
-                t.call(clock(30 * period - 30))
-                t.call(_again(f, s, period, [(1, 50)]))
-                t.call(outage(f, 30 * period - 30, 1), 7 if f == 2 else 0)
+                _shut_over_50_tenths(t, f, s, period)
                 holds = {0: False, 1: f == 0, 2: f == 0, 3: s == 0 and quantity < 50, 4: quantity > 50, 5: quantity > 50, 6: f == 1}[reason]
                 t.call(_again(f, s, period, [(1, quantity)], reason), 17 if not holds else 18 if quantity == 50 else 0)
                 t.call(look_up(f, s, period), 0, 3, quantity if holds else 50)
@@ -367,18 +376,13 @@ def a_variation_alone_is_no_held_offer(t):
 
 def blank_over_a_held_offer(t):
     """A standing offer of blanks has total 0: 1, 2 and 3 pass it where they hold, of a load 6, of a link 3; 4 and 5 don't; it is in force with 0.0 MW."""
-    t.open(3, 5)
-    for f, w in enumerate((GENERATION, LOAD, LINK)):
-        t.call(capability(f, w))
-    for kind in (3, 4, 5):
-        t.call(notice(kind, 0, 40_000_000))
+    _of_each_kind(t)
+    _notices(t, 0, 40_000_000)
     period = 1
     for f, s, passing in ((0, 0, (1, 2, 3)), (0, 2, (1, 2)), (0, 4, (1, 2)), (1, 1, (6,)), (2, 0, (3,))):
         for reason in range(7):
             period += 1
-            t.call(clock(30 * period - 30))
-            t.call(_again(f, s, period, [(1, 50)]))
-            t.call(outage(f, 30 * period - 30, 1), 7 if f == 2 else 0)
+            _shut_over_50_tenths(t, f, s, period)
             t.call(_again(f, s, period, [], reason), 0 if reason in passing else 17)
             t.call(look_up(f, s, period), 0, 3, 0 if reason in passing else 50)
             t.call(total(s, period), 0, 1, 0 if reason in passing else 50)
@@ -439,11 +443,8 @@ def tripped_set_stands_at_zero(t):
 
 def duplicates_inside_the_gate(t):
     """The held offer sent again: 18 with 1, 2 or a load's 6 where they hold, else 17, as 3, 4 and 5 ask for another total; the reason is no part of the offer."""
-    t.open(3, 5)
-    for f, w in enumerate((GENERATION, LOAD, LINK)):
-        t.call(capability(f, w))
-    for kind in (3, 4, 5):
-        t.call(notice(kind, 0, 1000))
+    _of_each_kind(t)
+    _notices(t, 0, 1000)
     places = ((0, 0, (1, 2)), (0, 3, (1, 2)), (1, 3, (6,)), (2, 0, ()))
     for f, s, _ in places:
         t.call(_again(f, s, 100, [(1, 50)], 5))
@@ -588,21 +589,20 @@ def stamps_that_hold_nothing(t):
 
 def damaged_windows(t):
     """Windows that the host wrote, wide, empty and turned round; a link's outage window doesn't open 2 or 6, nor a load's 2, nor generation's 6."""
-    t.open(3, 5)
-    for f, w in enumerate((GENERATION, LOAD, LINK)):
-        t.call(capability(f, w))
-        t.call(_again(f, 1 if f == 1 else 0, 100, [(1, 50)]))
+    _of_each_kind(t)
+    services = (0, 1, 0)
+    for f in range(3):
+        t.call(_again(f, services[f], 100, [(1, 50)]))
     t.call(clock(2950))
     quantity = 60
     for first, last, holds in ((LEAST, MOST, True), (100, 100, True), (101, 100, False), (LEAST, 99, False), (101, MOST, False), (MOST, LEAST, False)):
         t.write({5: first, 6: last, 7: first, 8: last, 9: first, 10: last})
         for f in range(3):
-            s = 1 if f == 1 else 0
             t.write({block(f) + 17: first, block(f) + 18: last})
             for reason in (2, 6, 4, 5, 3):
                 quantity += 1
                 kept = holds and reason in {0: (2, 4, 5, 3), 1: (6, 4, 5), 2: (4, 5, 3)}[f]
-                t.call(_again(f, s, 100, [(1, 5 if reason == 3 else quantity)], reason), 0 if kept else 17)
+                t.call(_again(f, services[f], 100, [(1, 5 if reason == 3 else quantity)], reason), 0 if kept else 17)
     t.words()
 
 
