@@ -1,6 +1,6 @@
 #!/usr/bin/env python3
 """Reads the machine code of a slot's next period as built for C: "work it out by remainder arithmetic alone, with no if, match or
-loop in that step". Every instruction of it is one of a few that read neither flags nor memory, so none of them jumps or chooses.
+loop in that step". Every instruction of it is one of a few that read no flags, nor memory but fixed places of the stack, so none of them jumps or chooses.
 
 The function for C is read whole; in the call, into which it is compiled, the run from the division by 30, over the remainder by 336, to
 the gate's comparison of minutes. The reader is tried on C functions that give the same periods: those that decide otherwise must be refused.
@@ -25,7 +25,8 @@ def is_plain(instruction):
     name, operands = instruction.name, instruction.operands
     if name == 'shr':
         return keeps_more_than_the_sign(operands)
-    # memory may be a table of answers
+    if name == 'mov':  # the compiler keeps values on the stack; where a register picks the place, it may be a table of answers
+        operands = re.sub(r'\b(D|Q)WORD PTR \[rsp([+-]0x[0-9a-f]+)?\]', '', operands)
     return name in PLAIN and (name in ('lea', 'nop') or not re.search(r'\[|PTR|[c-gs]s:', operands))
 
 
@@ -130,6 +131,7 @@ def test_call(library, code):
 AHEAD = 'uint32_t first = minute / 30 + 1; int32_t ahead = (int32_t)slot - (int32_t)(first % 336); '
 ACCEPTED = {
     'one_remainder': 'uint64_t first = minute / 30 + 1; return (uint32_t)(first + (slot + 335 * first) % 336);',
+    'a_slot_kept': 'volatile uint32_t kept = slot; uint64_t first = minute / 30 + 1; return (uint32_t)(first + (kept + 335 * first) % 336);',
 }
 REFUSED = {
     'an_if': AHEAD + 'if (ahead < 0) ahead += 336; return first + (uint32_t)ahead;',
@@ -142,6 +144,7 @@ REFUSED = {
     'a_mask': AHEAD + 'return first + (uint32_t)(ahead + (336 & ahead >> 31));',
     'a_sign': AHEAD + 'return first + (uint32_t)ahead + 336 * ((uint32_t)ahead >> 31);',
     'a_table': AHEAD + 'static const uint32_t weeks[2] = {336, 0}; return first + (uint32_t)ahead + weeks[1 + (ahead >> 31)];',
+    'a_table_on_the_stack': AHEAD + 'uint32_t weeks[2] = {336, 0}; __asm__("" : "+m"(weeks)); return first + (uint32_t)ahead + weeks[(uint32_t)(ahead + 336) / 336];',
     'a_division': 'uint64_t first = minute / 30 + 1, week = 336; __asm__("" : "+r"(week)); return (uint32_t)(first + (slot + 335 * first) % week);',
 }
 
