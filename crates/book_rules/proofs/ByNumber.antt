@@ -213,8 +213,8 @@ pub revised-at-next-period : RevisedAtNextPeriod
 unfolding RevisedAtNextPeriod applies conditions conditions-from-5 of-held
 revised-at-next-period w b call = (
   λ h p held next.
-  let now = book-view w .now in
-  let gate-at : ℕ → Bool = λ q. own-gate (book-view w) b q (pairs (h .offer)) (pairs (offer-in b)) in
-  rw (call, held) (or-false (gate-at (next-period now (toNat (period-word b)))) ∙ ap gate-at (sym (next-is-one now (toNat (period-word b)) p next))),
+      let now = book-view w .now in
+      let gate-at : ℕ → Bool = λ q. own-gate (book-view w) b q (pairs (h .offer)) (pairs (offer-in b)) in
+      rw (call, held) (or-false (gate-at (next-period now (toNat (period-word b)))) ∙ ap gate-at (sym (next-is-one now (toNat (period-word b)) p next))),
   λ held. rw (call, held),
 )

@@ -1,5 +1,5 @@
 -- What refusal 4 leaves of an offer, and a cell written and read back: 4 and 14 leave no ramps that word 2 doesn't give back.
-use mathlib.Core.Path.{_≡_, refl, sym, _∙_, ap, ap₂}
+use mathlib.Core.Path.{_≡_, refl, sym, _∙_, ap}
 use mathlib.Core.Bool.{Bool, true, false, cond, not, _&&_, true≢false}
 use mathlib.Core.List.{List, [], _∷_}
 use mathlib.Core.Option.{none, some}

@@ -1,4 +1,5 @@
--- Laws of the merge, from the tenths of two runs to a step over words.
+-- Laws of the merge, from the tenths of two runs to a step over words; and of what a reason asks.
 pub mod Words
 pub mod Runs
 pub mod Steps
+pub mod Asking

@@ -5,10 +5,11 @@ ghost use Prim.Native.Nat.{_+_, _-_, _*_, _≤_, _<_};
 ghost use lib.ListN.{length};
 ghost use Rattle.offer_rules.specs.Numbers.{toNat, eqZ};
 ghost use Rattle.offer_rules.specs.Offer.{pairs-in};
-ghost use Rattle.offer_rules.specs.Gate.{total-tenths, same-prices, covers, is-open, reason-met, reason-holds, gate-refuses};
+ghost use Rattle.offer_rules.specs.Gate.{total-tenths, same-prices, covers, is-open, reason-holds, gate-refuses};
 ghost use Rattle.gate.specs.Differing.{first-differing};
 ghost use Rattle.gate.specs.Merging.{left-of, alike, differ, merged};
 ghost use Rattle.gate.specs.Meaning.{window-of, grounds-of};
+ghost use Rattle.gate.specs.Asked.{period-covered, total-moved};
 use kinds::admits;
 use layout::facility;
 use layout::fields;
@@ -171,10 +172,10 @@ fn is_covered(window: Window, period: u64) -> bool
     (window.first <= p) & (p <= window.last)
 }
 
-// What a reason asks, with the totals of old and new.
-fn is_reason_met(g: Grounds, service: u8, period: u64, old: u64, new: u64, reason: u8) -> bool
+// What a reason asks of service and period.
+fn is_period_covered(g: Grounds, service: u8, period: u64, reason: u8) -> bool
     requires { ⌜ period < 2147483648 ⌝ }
-    ensures { λ r. ⌜ r ≡ reason-met (grounds-of g) service period old new reason ⌝ }
+    ensures { λ r. ⌜ r ≡ period-covered (grounds-of g) service period reason ⌝ }
 {
     let outage = is_covered(g.outage, period);
     let surplus = is_covered(g.surplus, period);
@@ -183,11 +184,23 @@ fn is_reason_met(g: Grounds, service: u8, period: u64, old: u64, new: u64, reaso
     match reason {
         1 => true,
         2 => outage,
-        3 => ((service == facility::ENERGY) & surplus) & (new < old),
-        4 => shortfall & (old < new),
-        5 => status & (old < new),
+        3 => (service == facility::ENERGY) & surplus,
+        4 => shortfall,
+        5 => status,
         6 => outage,
         0 | 7..=255 => false,
+    }
+}
+
+// What it asks of the totals of old and new.
+fn is_total_moved(reason: u8, old: u64, new: u64) -> bool
+    ensures { λ r. ⌜ r ≡ total-moved reason old new ⌝ }
+{
+    match reason {
+        3 => new < old,
+        4 => old < new,
+        5 => old < new,
+        0..=2 | 6..=255 => true,
     }
 }
 
@@ -199,7 +212,7 @@ pub fn is_before_closure(clock: u64, period: u64) -> bool
     clock + time::GATE_CLOSURE_MINUTES <= time::PERIOD_MINUTES * period
 }
 
-// "Inside that it needs a reason". Only reasons 3 to 5 ask for the totals.
+// "Inside that it needs a reason". Only reasons 3 to 5 ask for the totals, which are taken from every pair and so asked for last.
 fn is_allowed(g: Grounds, service: u8, period: u64, reason: u8, old: &[i32], new: &[i32]) -> bool
     requires { ⌜ (period < 2147483648) × (length (now old) ≤ 20) × (length (now new) ≤ 20) ⌝ }
     ensures { λ r. ⌜ r ≡ reason-holds (grounds-of g) service period (total-tenths (pairs-in (now (old .entry)))) (total-tenths (pairs-in (now (new .entry)))) reason ⌝ }
@@ -207,12 +220,15 @@ fn is_allowed(g: Grounds, service: u8, period: u64, reason: u8, old: &[i32], new
     if !admits(g.kind, reason) {
         return false;
     }
+    if !is_period_covered(g, service, period, reason) {
+        return false;
+    }
     if (fields::ENERGY_SURPLUS <= reason) & (reason <= fields::SYSTEM_STATUS) {
         let before = total_tenths(old);
         let after = total_tenths(new);
-        return is_reason_met(g, service, period, before, after, reason);
+        return is_total_moved(reason, before, after);
     }
-    is_reason_met(g, service, period, 0, 0, reason)
+    true
 }
 
 // 17, of a variation and of a standing offer over a held one; old holds no pairs where no offer is in force.

@@ -1,14 +1,14 @@
 -- A record's stray bytes are those that are not zero in the gaps between the bytes that its call uses.
 -- Whether gaps are those of a call is computed: both sides become the same tests, byte by byte.
 use mathlib.Core.Path.{_≡_, refl, sym, _∙_}
-use mathlib.Core.Bool.{Bool, true, false, cond, not, _&&_, _||_, or-false, or-assoc, and-comm}
+use mathlib.Core.Bool.{Bool, false, not, _&&_, _||_, or-false, or-assoc, and-comm}
 use mathlib.Core.List.{List, [], _∷_}
 use Prim.Native.Nat.{ℕ, zero, suc, _+_, _-_, _<_, _≤_}
 use native.Mathlib.Omega.{arith}
-use lib.Dec.{eqb, ltb}
+use lib.Dec.{eqb}
 use lib.ListN.{length, getD, drop, drop-of-length-le}
 use lib.Seq.{drop-cons}
-use Rattle.book_rules.specs.Record.{byte, any-stray, used-by-offer, used}
+use Rattle.book_rules.specs.Record.{byte, any-stray}
 use Rattle.record.specs.Gaps.{any-set}
 
 -- ---- a loop over the bytes from i to before z

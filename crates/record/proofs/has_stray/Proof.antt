@@ -4,7 +4,6 @@ use mathlib.Core.Path.{_≡_, refl, _∙_}
 use mathlib.Core.Logic.{⊎-elim}
 use mathlib.Core.List.{List, [], _∷_}
 use Prim.Native.Nat.{ℕ}
-use borrow.Author.Tests.{eq-eqb, ne-eqb}
 use Rattle.book_rules.specs.Record.{byte, used, has-stray}
 use Rattle.record.proofs.UnknownCalls.{unknown-uses-none}
 use Rattle.record.proofs.StrayBytes.{Gap, gap, set-in-gaps, set-or, gap-bytes, unused-bytes, stray-in-gaps}

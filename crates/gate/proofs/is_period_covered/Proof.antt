@@ -1,10 +1,10 @@
--- is_reason_met: an arm for each reason, and false for bytes that are none.
+-- is_period_covered: an arm for each reason, and false for bytes that are none.
 use mathlib.Core.Path.{refl}
 use borrow.Author.Tests.{ne-eqb}
-use Rattle.offer_rules.specs.Gate.{reason-met}
+use Rattle.gate.specs.Asked.{period-covered}
 use borrow.Author.Needs.{needs}
-use Rattle.gate.proofs.is_reason_met.Statement.{statement}
-use Rattle.gate.proofs.is_reason_met.Tie as tie
+use Rattle.gate.proofs.is_period_covered.Statement.{statement}
+use Rattle.gate.proofs.is_period_covered.Tie as tie
 
 is-covered-requires : tie.Need-is-covered-requires
 is-covered-requires c κs = search needs
@@ -19,40 +19,40 @@ is-covered-requires-4 : tie.Need-is-covered-requires-4
 is-covered-requires-4 c κs = search needs
 
 returns : tie.Need-returns
-unfolding reason-met
+unfolding period-covered
 returns c = rw (c .match .keys1) refl
 
 returns-2 : tie.Need-returns-2
-unfolding reason-met
+unfolding period-covered
 returns-2 c = rw (c .match .keys2, ← c .before .before .before .before .is-covered .ensures) refl
 
 returns-3 : tie.Need-returns-3
-unfolding reason-met
+unfolding period-covered
 returns-3 c = rw (c .match .keys3, ← c .before .before .before .is-covered2 .ensures) refl
 
 returns-4 : tie.Need-returns-4
-unfolding reason-met
+unfolding period-covered
 returns-4 c = rw (c .match .keys4, ← c .before .before .is-covered3 .ensures) refl
 
 returns-5 : tie.Need-returns-5
-unfolding reason-met
+unfolding period-covered
 returns-5 c = rw (c .match .keys5, ← c .before .is-covered4 .ensures) refl
 
 returns-6 : tie.Need-returns-6
-unfolding reason-met
+unfolding period-covered
 returns-6 c = rw (c .match .keys6, ← c .before .before .before .before .is-covered .ensures) refl
 
 returns-7 : tie.Need-returns-7
-unfolding reason-met
+unfolding period-covered
 returns-7 c = rw (c .match .keys7) refl
 
 returns-8 : tie.Need-returns-8
-unfolding reason-met
+unfolding period-covered
 returns-8 c = let t = c .before .before .before .before .before .args .reason in let r = c .match .rest in
     rw (ne-eqb t 1 (r .0 .0 .0 .0 .0 .0 .1), ne-eqb t 2 (r .0 .0 .0 .0 .0 .1), ne-eqb t 3 (r .0 .0 .0 .0 .1), ne-eqb t 4 (r .0 .0 .0 .1), ne-eqb t 5 (r .0 .0 .1), ne-eqb t 6 (r .0 .1))
 
-pub is-reason-met-spec : {M : Type 1} → statement M
-is-reason-met-spec =
+pub is-period-covered-spec : {M : Type 1} → statement M
+is-period-covered-spec =
     tie.close
     (tie.spec
     is-covered-requires
