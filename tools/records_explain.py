@@ -50,16 +50,20 @@ def offer_rows(service, proportion, ramp_up, ramp_down, words):
     return rows + pair_rows(words, count) + [('total', show_mw(sum(words[1::2])))]
 
 
-def open_row(period):
+def last_open(period):
     """'A variation is open when 30 P - now is 65 or more.'"""
-    last = 30 * period - 65
+    return 30 * period - 65
+
+
+def open_row(period):
+    last = last_open(period)
     text = f'up to minute {show_minute(last)}; after it with a reason only' if last >= 0 else 'at no minute; with a reason only'
     return 'gate open', text
 
 
 def slot_open_row(slot):
     """The same by the slot's next period, for a standing offer over a held one."""
-    closes, starts = show_weekly(30 * slot - 64), show_weekly(30 * slot)
+    closes, starts = show_weekly(last_open(slot) + 1), show_weekly(30 * slot)
     return 'gate open', f'but for {closes} to {starts} every week; then over a held offer with a reason only'
 
 
