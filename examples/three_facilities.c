@@ -134,6 +134,7 @@ int main(void)
                BILZHAAN_PERIOD_MINUTES * bilzhaan_next_period(690 + BILZHAAN_SCHEDULE_CUTOFF_MINUTES, 24));
 
     /* with the reason it is accepted now, and stands every Monday; the variation stays in force for this one */
+    tripped.period %= BILZHAAN_WEEK_SLOTS; /* the period's slot */
     tripped.pairs[0].quantity = 1500;
     bilzhaan_write_standing(record, &tripped);
     file("The steam set's standing offer for Mondays at 12:00 cut down, for the outage");

@@ -111,9 +111,10 @@ enum {
     BILZHAAN_LINK = 3  /* a cross-border link, the market's import registered facility: energy alone, and no outages */
 };
 
-/* Byte 12 of a standing offer and of a variation: why it is filed after gate closure. A standing offer is asked for one only
- * over a held one, and by its slot's next period alone (bilzhaan_next_period), though it then stands every week. The reason
- * isn't kept. 3, 4 and 5 are also the kinds of advisory notice. */
+/* Byte 12 of a standing offer and of a variation: why it is filed after gate closure, else 0. Above 6 it draws 11, which the
+ * record test doesn't ask. A standing offer is asked for one only over a held one, and by its slot's next period alone
+ * (bilzhaan_next_period), though it then stands every week. The reason isn't kept. A library older than 1.5.0
+ * (bilzhaan_version) refuses a standing offer's with 4. 3, 4 and 5 are also the kinds of advisory notice. */
 enum {
     BILZHAAN_REASON_NONE = 0,
     BILZHAAN_REASON_SYNCHRONISATION = 1, /* 1 and 2: generation alone */

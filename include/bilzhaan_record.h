@@ -12,13 +12,14 @@ struct bilzhaan_pair {
     int32_t quantity; /* tenths of a MW; 0, and price 0, is a blank pair */
 };
 
-/* A standing offer or a variation. What the call or the service doesn't use stays 0, else the record draws 4.
+/* A standing offer or a variation. What the service doesn't use stays 0, else the record draws 4. Either call files with the
+ * reason that is there: clear one left over from another offer.
  * A standing offer without pairs is one of 0.0 MW; a variation without pairs takes the period's variation back. */
 struct bilzhaan_offer {
     int32_t facility;
     int32_t service;
     int32_t period;     /* of a standing offer: the slot */
-    int32_t reason;     /* why it is filed after gate closure */
+    int32_t reason;     /* why it is filed after gate closure, else 0 */
     int32_t proportion; /* of services 1 to 3: thousandths */
     int32_t ramp_up;    /* of energy: tenths of a MW per minute */
     int32_t ramp_down;

@@ -690,9 +690,9 @@ class Shown(Tool):
 
     def test_weekly_gate(self):
         """The same by the slot's next period: 64 minutes of every week ask for a reason."""
-        for slot, text in ((0, 'Sunday, 22:56 to Monday, 00:00'), (1, 'Sunday, 23:26 to Monday, 00:30'), (2, 'Sunday, 23:56 to Monday, 01:00'),
-                           (3, 'Monday, 00:26 to Monday, 01:30'), (4, 'Monday, 00:56 to Monday, 02:00'), (48, 'Monday, 22:56 to Tuesday, 00:00'),
-                           (335, 'Sunday, 22:26 to Sunday, 23:30')):
+        for slot, text in ((0, 'Sunday, 22:56 until Monday, 00:00'), (1, 'Sunday, 23:26 until Monday, 00:30'), (2, 'Sunday, 23:56 until Monday, 01:00'),
+                           (3, 'Monday, 00:26 until Monday, 01:30'), (4, 'Monday, 00:56 until Monday, 02:00'), (48, 'Monday, 22:56 until Tuesday, 00:00'),
+                           (335, 'Sunday, 22:26 until Sunday, 23:30')):
             rows = self.rows(f'standing --facility 0 --service 0 --slot {slot} --pairs 1@1')
             self.assertEqual(rows['gate open'], f'but for {text} every week; then over a held offer with a reason only')
         self.assertNotIn('gate open', self.rows('standing --facility 0 --service 0 --slot 336 --pairs 1@1 --anyway'))

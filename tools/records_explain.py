@@ -64,7 +64,7 @@ def open_row(period):
 def slot_open_row(slot):
     """The same by the slot's next period, for a standing offer over a held one."""
     closes, starts = show_weekly(last_open(slot) + 1), show_weekly(30 * slot)
-    return 'gate open', f'but for {closes} to {starts} every week; then over a held offer with a reason only'
+    return 'gate open', f'but for {closes} until {starts} every week; then over a held offer with a reason only'
 
 
 def capability_rows(words):

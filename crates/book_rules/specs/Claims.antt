@@ -50,8 +50,8 @@ unfoldable pub StandsAfterwards : Type 0
 StandsAfterwards = (w : List ℤ) (b : List ℕ) → is-book w ≡ true → record-number b (facilities-in w) (services-in w) ≡ 0 → call-of b ≡ 4
     → applies w b 17 ≡ own-gate (book-view w) b (toNat (period-word b)) (pairs-of (force-for w b)) (pairs-of (force-for (book-accept w b) b))
 
--- "P is the slot's next period not yet begun; old is the held standing offer, new the one filed" (document 02): on every words and every standing offer, the condition
--- of 17 is the same gate's at the one period p that is the slot's next, whatever variation is in force for p. "A first one always passes the gate."
+-- "P is the slot's next period not yet begun; old is the held standing offer, new the one filed" (document 02): on every words and every standing offer for a slot 0 to 335,
+-- the condition of 17 is the same gate's at the one period p that is the slot's next, whatever variation is in force for p. "A first one always passes the gate."
 unfoldable pub RevisedAtNextPeriod : Type 0
 RevisedAtNextPeriod = (w : List ℤ) (b : List ℕ) → call-of b ≡ 3
     → ((h : Held) (p : ℕ) → own-held (book-view w) b ≡ some h → IsNext (book-view w .now) (toNat (period-word b)) p

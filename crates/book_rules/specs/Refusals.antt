@@ -120,7 +120,7 @@ force-number x = draw (eqb (counted x) 0) 19
 unfoldable pub admission-number : List ℤ → ℕ → Bool → ℕ
 admission-number c s refused = facility-number c then registration-number c s then draw refused 10
 
--- 11 to 18 of a standing offer that is admitted for slot k
+-- 11 to 18 of a standing offer that is admitted for slot k. Of its reason, "refusal 11 covers it" (document 02).
 unfoldable pub admitted-standing : View → ℕ → ℕ → ℕ → ℕ → List ℤ → ℕ
 admitted-standing vw f s k reason o =
     offer-number (vw .limits) (vw .capability f) s reason o

@@ -99,7 +99,7 @@ row calls call line = record { book = opened-book; before = calls; last = call; 
 abbrev revised : ℕ → ℕ → Line → Case
 revised slot minute = row (plant ∷ (standing slot (700 at 4000 ∷ []) ∷ (clock minute ∷ []))) (standing slot (600 at 4000 ∷ []))
 
--- `stands` is held and the gate of slot 4 shut by a trip: these pairs are filed over it with a reason.
+-- `stands` is held, then these calls; the gate of slot 4 is shut, and an outage covers period 4: pairs are filed over it with a reason.
 abbrev over-stands : List (List ℕ) → ℕ → List Pair → Line → Case
 over-stands calls reason offer = row ((plant ∷ (stands ∷ calls)) ++ tripped) (with-reason reason (standing 4 offer))
 

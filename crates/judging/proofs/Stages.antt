@@ -45,7 +45,7 @@ module _ (vw : View) (f s p : ℕ) (o : List ℤ) where
   unfolding will-stand variation-made
   standing-stands h = rw h
 
--- Before closure a variation draws no 17, whatever stands before and after.
+-- Before closure no offer draws 17, whatever old and new are.
 pub open-draws-none : (now : ℕ) (g : Grounds) (s p reason : ℕ) (old new : List Pair) → is-open now p ≡ true → gate-number now g s p reason old new ≡ 0
 unfolding gate-number gate-refuses draw
 open-draws-none now g s p reason old new h = rw h

@@ -252,7 +252,7 @@ fn next_period(book: &[i32], slot: usize) -> usize
     next as usize
 }
 
-// 17 of a standing offer over the held one. Before closure, where most are filed, no prices are compared.
+// 17 of a standing offer over the held one. Before closure, where most are filed, no window and no pair is read.
 fn standing_gate_number(
     book: &[i32],
     f: usize,
@@ -262,7 +262,7 @@ fn standing_gate_number(
     held: InForce,
     offer: &[i32],
 ) -> u8
-    requires { ⌜ Usable (now book) × (f < facilities-in (now book)) × (slot < 336) × (end-of held ≤ length (now book)) × (length (now offer) ≡ 23) ⌝ }
+    requires { ⌜ Usable (now book) × (f < facilities-in (now book)) × (service < services-in (now book)) × (slot < 336) × (end-of held ≤ length (now book)) × (length (now offer) ≡ 23) ⌝ }
     ensures { λ r. ⌜ (r ≡ gate-number (toNat (word (now (book .entry)) clock-place)) (grounds (book-view (now (book .entry))) f) service (next-period (toNat (word (now (book .entry)) clock-place)) slot) reason (pairs-of (meaning (now (book .entry)) held)) (pairs (now (offer .entry)))) × (r ≤ 17) ⌝ }
 {
     let next = next_period(book, slot);

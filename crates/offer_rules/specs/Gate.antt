@@ -47,19 +47,26 @@ pub record Grounds : Type 0 where
   pub shortfall : Window
   pub status : Window
 
--- What a reason, 1 to 6, asks of service s, period p and the totals of old and new.
-unfoldable pub reason-met : Grounds → ℕ → ℕ → ℕ → ℕ → ℕ → Bool
-reason-met g s p old new reason =
-    cond (eqb reason 1) true
-    (cond (eqb reason 2) (covers (g .outage) p)
-    (cond (eqb reason 3) ((is-energy s && covers (g .surplus) p) && ltb new old)
-    (cond (eqb reason 4) (covers (g .shortfall) p && ltb old new)
-    (cond (eqb reason 5) (covers (g .status) p && ltb old new)
-    (cond (eqb reason 6) (covers (g .outage) p) false)))))
+-- What each reason asks. Of the kind, 1 and 2 "generation", 6 "load", for a link 3 to 5: Kinds, `admits`. Of service s, "3 service 0":
+unfoldable pub admits-service : ℕ → ℕ → Bool
+admits-service s reason = cond (eqb reason 3) (is-energy s) true
 
--- "Inside that it needs a reason": one that admits the facility's kind (1 and 2 "generation", 6 "load", for a link 3 to 5), and is met.
+-- Of period p, 2 and 6 "P in the outage window", 3, 4 and 5 "P in that notice":
+unfoldable pub period-covered : Grounds → ℕ → ℕ → Bool
+period-covered g p reason =
+    cond (eqb reason 2) (covers (g .outage) p)
+    (cond (eqb reason 3) (covers (g .surplus) p)
+    (cond (eqb reason 4) (covers (g .shortfall) p)
+    (cond (eqb reason 5) (covers (g .status) p)
+    (cond (eqb reason 6) (covers (g .outage) p) true))))
+
+-- Of the totals, 3 "new total below old", 4 and 5 "new total above old":
+unfoldable pub total-moved : ℕ → ℕ → ℕ → Bool
+total-moved reason old new = cond (eqb reason 3) (ltb new old) (cond (eqb reason 4) (ltb old new) (cond (eqb reason 5) (ltb old new) true))
+
+-- "Inside that it needs a reason": one that holds, given the totals of old and new. 0, and what is above 6, admits no kind.
 unfoldable pub reason-holds : Grounds → ℕ → ℕ → ℕ → ℕ → ℕ → Bool
-reason-holds g s p old new reason = admits (g .kind) reason && reason-met g s p old new reason
+reason-holds g s p old new reason = (admits (g .kind) reason && admits-service s reason) && (period-covered g p reason && total-moved reason old new)
 
 -- "A variation is open when 30·P − now is 65 or more."
 abbrev pub gate-minutes : ℕ

@@ -390,7 +390,7 @@ def blank_over_a_held_offer(t):
 
 
 def over_a_held_blank(t):
-    """A held offer of blanks inside the gate: sent again it draws 18 with 1 or 2 and else 17; more passes by 4 and 5 at any price, by 3 nothing does."""
+    """A held offer of blanks inside the gate: sent again it draws 18 with 1 or 2, 11 with 7 and else 17; more passes by 1, 2, 4 and 5 at any price, by 3 nothing does."""
     _held(t, 2950, [])
     for reason, number in ((0, 17), (1, 18), (2, 18), (3, 17), (4, 17), (5, 17), (6, 17), (7, 11)):
         t.call(_again(0, 0, 100, [], reason), number)
