@@ -95,6 +95,7 @@ unfolding Reasons reason-holds admits-service period-covered total-moved kind-ro
 reasons g s p old new =
     let z = g .kind in
     let unknown : (z : ℤ) → kind-row z ≡ kind-row (pos 0) → is-kind z ≡ false = λ z none. ap (λ (k : Kind). k .known) none in (
+      asks-kind (admits z 0) true true ∙ ap (λ (t : Bool). t && true) (whom 0 (λ z. false) refl refl refl (λ z none a b. refl) z),
       asks-kind (admits z 1) true true ∙ and-true (admits z 1) ∙ whom 1 is-generation refl refl refl (λ z none a b. a) z,
       asks-kind (admits z 2) (covers (g .outage) p) true
           ∙ ap₂ _&&_ (whom 2 is-generation refl refl refl (λ z none a b. a) z) (and-true (covers (g .outage) p)),
