@@ -102,7 +102,7 @@ struct kind {
     int32_t first; /* of a look-up: word 0 */
 };
 
-static struct kind kinds[52];
+static struct kind kinds[64];
 static int kind_count;
 static size_t keys = MOST_KEYS; /* fewer where instructions are counted */
 static size_t in_gate, links_in_gate; /* of these, those inside gate closure */
@@ -169,6 +169,8 @@ static struct record full_offer(int call, struct key k, int reason, int step)
 
 static struct kind *add_kind(const char *name, uint32_t expected)
 {
+    if (kind_count == sizeof kinds / sizeof *kinds)
+        exit(2);
     struct kind *k = &kinds[kind_count++];
     k->name = name;
     k->expected = expected;
@@ -316,6 +318,37 @@ static struct record link_inside_gate_for(struct key k, int step)
     return r;
 }
 
+/* One tenth more and then one less, so that none is a duplicate. */
+static struct record standing_inside_gate_for(struct key k, int step)
+{
+    struct record r = full_offer(BILZHAAN_CALL_STANDING, k, BILZHAAN_REASON_SYNCHRONISATION, 0);
+    int last = k.s == 0 ? 9 : 4;
+    set_pair(&r, last, 1000 * (last + 1), step == 0 ? 21 : 20);
+    return r;
+}
+
+static struct record standing_reason_fails_for(struct key k, int step)
+{
+    struct record r = standing_inside_gate_for(k, step);
+    r.bytes[BILZHAAN_AT_REASON] = BILZHAAN_REASON_SYSTEM_STATUS; /* no such notice is given */
+    return r;
+}
+
+static struct record standing_last_tenths_differ_for(struct key k, int step)
+{
+    struct record r = last_tenths_differ_for(k, step);
+    r.bytes[BILZHAAN_AT_CALL] = BILZHAAN_CALL_STANDING;
+    set_word(&r, BILZHAAN_AT_PERIOD, k.period % BILZHAAN_WEEK_SLOTS);
+    return r;
+}
+
+static struct record link_standing_inside_gate_for(struct key k, int step)
+{
+    struct record r = standing_inside_gate_for(k, step);
+    r.bytes[BILZHAAN_AT_REASON] = step == 0 ? BILZHAAN_REASON_SHORTFALL : BILZHAAN_REASON_ENERGY_SURPLUS;
+    return r;
+}
+
 static struct record nothing_for(struct key k, int step)
 {
     k.s = BILZHAAN_REGULATION;
@@ -374,7 +407,14 @@ static void make_kinds(void)
     add_calls("3 standing, no such slot", 10, energy_keys, keys, 1, no_slot_for);
     add_calls("3 standing, prices don't rise", 13, energy_keys, keys, 1, falling_for);
     add_calls("3 standing, above capacity", 16, energy_keys, keys, 1, above_for);
-    add_calls("3 standing, inside gate closure", 17, back_gate_keys, in_gate, 1, standing_for);
+    add_calls("3 standing, inside gate closure", 0, gate_keys, in_gate, 2, standing_inside_gate_for);
+    add_calls("3 standing, inside gate closure, energy of a link", 0, link_gate_keys, links_in_gate, 2,
+              link_standing_inside_gate_for)->of_links = true;
+    add_calls("3 standing, inside gate closure without a reason", 17, back_gate_keys, in_gate, 1, standing_for);
+    add_calls("3 standing, reason doesn't hold", 17, gate_keys, in_gate, 1, standing_reason_fails_for);
+    add_calls("3 standing, reason not open to a link", 17, link_gate_keys, links_in_gate, 1,
+              standing_inside_gate_for)->of_links = true;
+    add_calls("3 standing, last tenths differ", 17, gate_keys, in_gate, 1, standing_last_tenths_differ_for);
     add_calls("3 standing, duplicate", 18, read_keys, keys, 1, standing_for);
     add_calls("4 variation, gate open, energy", 0, energy_keys, keys, 2, variation_for);
     add_calls("4 variation, gate open, reserve", 0, reserve_keys, keys, 2, variation_for);
@@ -499,6 +539,7 @@ static void set_up(const struct subject *who)
     }
     for (size_t i = 0; i < in_gate; i++) {
         file(who, inside_gate_for(gate_keys[i], 0));
+        file(who, standing_for(gate_keys[i], 0)); /* hidden by the variation */
         file(who, standing_for(back_gate_keys[i], 0));
         file(who, inside_gate_for(back_gate_keys[i], 0));
     }

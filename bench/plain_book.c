@@ -136,9 +136,6 @@ static int record_number(const uint8_t *r, size_t length, int32_t facilities, in
             return 3;
         return all_zero(r, 7, 32) && all_zero(r, 100, 112) ? 0 : 4;
     case 3:
-        if (no_facility || no_service)
-            return 3;
-        return r[12] == 0 ? offer_record(r) : 4;
     case 4:
         if (no_facility || no_service)
             return 3;
@@ -293,27 +290,30 @@ static inline bool in_window(const int32_t *window, int32_t period)
     return window[0] <= period && period <= window[1];
 }
 
+/* A variation's period is its own, a standing offer's the slot's next. */
 static bool gate_refuses(const struct book *b, const uint8_t *r, int32_t period, const int32_t *block,
                          const struct offer *o)
 {
-    if (30 * period - b->now >= 65) /* the horizon bounds period, so 30 * period fits */
+    if (30 * period - b->now >= 65) /* horizon and next week bound period, so 30 * period fits */
         return false;
     int s = r[7], reason = r[12];
     if (!has_bit(kinds[block[0]].reasons, reason)) /* 0 is in no kind's */
         return true;
-    const int32_t *old = in_force(b, r[6], s, period);
-    int64_t old_total = gate_total(old);
-    /* blanks alone take the variation back: what stands then is the standing offer, which may be damaged */
-    const int32_t *new = o->total != 0 ? o->words : held_standing(b, r[6], s, period % SLOTS);
-    int64_t new_total = o->total != 0 ? o->total : gate_total(new);
+    bool varies = r[5] == 4, takes_back = varies && o->total == 0;
+    const int32_t *old = varies ? in_force(b, r[6], s, period) : held_standing(b, r[6], s, period % SLOTS);
+    /* after a take-back the standing offer stands, which may be damaged */
+    const int32_t *new = takes_back ? held_standing(b, r[6], s, period % SLOTS) : o->words;
+    int64_t rise = 0;
+    if (reason >= 3 && reason <= 5)
+        rise = (takes_back ? gate_total(new) : o->total) - gate_total(old);
     const int32_t *notices = b->words + HEAD_NOTICES;
     bool holds = true;
     switch (reason) {
     case 2:
     case 6: holds = in_window(block + BLOCK_OUTAGE, period); break;
-    case 3: holds = s == 0 && in_window(notices, period) && new_total < old_total; break;
-    case 4: holds = in_window(notices + 2, period) && new_total > old_total; break;
-    case 5: holds = in_window(notices + 4, period) && new_total > old_total; break;
+    case 3: holds = s == 0 && in_window(notices, period) && rise < 0; break;
+    case 4: holds = in_window(notices + 2, period) && rise > 0; break;
+    case 5: holds = in_window(notices + 4, period) && rise > 0; break;
     }
     return !holds || (old && new && !same_prices(old, new));
 }
@@ -370,7 +370,8 @@ static int file_standing(const struct book *b, const uint8_t *r)
         return number;
     int32_t *cell = cell_of(b, r[6], r[7], 0, slot);
     if (cell[0] == 1) {
-        if (30 * (int32_t)plain_next_period((uint32_t)b->now, (uint32_t)slot) - b->now < 65)
+        int32_t next = (int32_t)plain_next_period((uint32_t)b->now, (uint32_t)slot);
+        if (gate_refuses(b, r, next, block, &o))
             return 17;
         if (is_same_offer(cell, o.words))
             return 18;

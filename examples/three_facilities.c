@@ -1,6 +1,6 @@
 /* A book for three facilities and five services: two generating sets and a load. It files offers, has some refused,
  * prints what each number means, reads what is in force, five minutes later too, says from when on a standing offer that
- * comes too late may be filed, and takes a variation back.
+ * comes too late may be filed, files another with its reason, and takes a variation back.
  *
  *     cc three_facilities.c $(pkg-config --cflags --libs bilzhaan) -o three_facilities */
 #include <bilzhaan_record.h>
@@ -125,7 +125,7 @@ int main(void)
     file("The clock, Monday 11:35");
     print_in_force("Steam set, energy", STEAM_SET, BILZHAAN_ENERGY, 24);
 
-    /* a standing offer over a held one waits until the slot's next period has begun */
+    /* without a reason a standing offer over a held one waits until the slot's next period has begun */
     bilzhaan_write_standing(record, &(struct bilzhaan_offer){
         .facility = GAS_TURBINE, .service = BILZHAAN_ENERGY, .period = 24, .ramp_up = 100, .ramp_down = 100,
         .pairs = {{.price = 9500, .quantity = 800}}});
@@ -133,10 +133,17 @@ int main(void)
         printf("  It may be filed from minute %" PRIu32 " on, for the slot's period a week later\n",
                BILZHAAN_PERIOD_MINUTES * bilzhaan_next_period(690 + BILZHAAN_SCHEDULE_CUTOFF_MINUTES, 24));
 
+    /* with the reason it is accepted now, and stands every Monday; the variation stays in force for this one */
+    tripped.period %= BILZHAAN_WEEK_SLOTS; /* the period's slot */
+    tripped.pairs[0].quantity = 1500;
+    bilzhaan_write_standing(record, &tripped);
+    file("The steam set's standing offer for Mondays at 12:00 cut down, for the outage");
+    print_in_force("Steam set, energy", STEAM_SET, BILZHAAN_ENERGY, 24);
+
     /* a variation without pairs doesn't mean 0.0 MW: the standing offer stands again */
     bilzhaan_write_variation(record, &(struct bilzhaan_offer){
         .facility = STEAM_SET, .service = BILZHAAN_ENERGY, .period = 24, .reason = BILZHAAN_REASON_FORCED_OUTAGE});
-    file("The steam set runs again, and its variation is taken back");
+    file("The steam set runs again in part, and its variation is taken back");
     print_in_force("Steam set, energy", STEAM_SET, BILZHAAN_ENERGY, 24);
     return 0;
 }

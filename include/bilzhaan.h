@@ -33,8 +33,8 @@
 
 /* ---- versions and sizes ---- */
 
-/* This header's version, 1.4.0: 10,000 times the first number, 100 times the second, and the third. */
-#define BILZHAAN_VERSION 10400
+/* This header's version, 1.5.0: 10,000 times the first number, 100 times the second, and the third. */
+#define BILZHAAN_VERSION 10500
 
 /* A book of another version than BILZHAAN_BOOK_VERSION, head word 1, is refused with 1. Nothing converts a stored book of
  * version 1, whose cells hold no minute: its host opens a new book and files again, from its own records, what was accepted,
@@ -51,7 +51,7 @@ enum {
     BILZHAAN_PAIRS_OTHER = 5,
     BILZHAAN_WEEK_SLOTS = 336,     /* the slot of period P is P mod 336 */
     BILZHAAN_PERIOD_MINUTES = 30,  /* period P starts at minute 30 * P */
-    BILZHAAN_GATE_MINUTES = 65,    /* a variation with 65 minutes or more to go needs no reason */
+    BILZHAAN_GATE_MINUTES = 65,    /* an offer with 65 minutes or more to go needs no reason */
     BILZHAAN_SCHEDULE_CUTOFF_MINUTES = 5, /* an offer accepted less than 5 minutes ago is fresh */
     BILZHAAN_CLOCK_LAST = 1000000000,
     BILZHAAN_NOTICE_PERIOD_LAST = 40000000,
@@ -83,11 +83,11 @@ enum {
 /* Byte 5, with what each call uses. Bytes that a call doesn't use are zero.
  * A variation whose pairs are all blank takes the period's variation back, if there is one: the standing offer stands
  * again, or nothing does and a look-up draws 19. It doesn't mean 0.0 MW, which can't be filed for one period; the least
- * is 0.1 MW. */
+ * is 0.1 MW. A standing offer whose pairs are all blank does mean 0.0 MW, every week until the next. */
 enum {
     BILZHAAN_CALL_CLOCK = 1,      /* A the minute */
     BILZHAAN_CALL_CAPABILITY = 2, /* facility; W0 to W16 */
-    BILZHAAN_CALL_STANDING = 3,   /* facility, service, slot, offer */
+    BILZHAAN_CALL_STANDING = 3,   /* facility, service, slot, reason, offer */
     BILZHAAN_CALL_VARIATION = 4,  /* facility, service, period, reason, offer */
     BILZHAAN_CALL_OUTAGE = 5,     /* facility; A the minute, B the count of periods after it */
     BILZHAAN_CALL_NOTICE = 6,     /* reason 3, 4 or 5; A, B first and last period */
@@ -111,7 +111,10 @@ enum {
     BILZHAAN_LINK = 3  /* a cross-border link, the market's import registered facility: energy alone, and no outages */
 };
 
-/* Byte 12 of a variation: why it is filed after gate closure. 3, 4 and 5 are also the kinds of advisory notice. */
+/* Byte 12 of a standing offer and of a variation: why it is filed after gate closure, else 0. Above 6 it draws 11, which the
+ * record test doesn't ask. A standing offer is asked for one only over a held one, and by its slot's next period alone
+ * (bilzhaan_next_period), though it then stands every week. The reason isn't kept. A library older than 1.5.0
+ * (bilzhaan_version) refuses a standing offer's with 4. 3, 4 and 5 are also the kinds of advisory notice. */
 enum {
     BILZHAAN_REASON_NONE = 0,
     BILZHAAN_REASON_SYNCHRONISATION = 1, /* 1 and 2: generation alone */
@@ -230,10 +233,11 @@ uint32_t bilzhaan_record_test(const uint8_t *bytes, size_t count, int32_t facili
 uint32_t bilzhaan_open(int32_t *words, size_t count, int32_t facilities, int32_t services,
                        const int32_t limits[BILZHAAN_LIMITS]);
 
-/* The least period of `slot` that has not begun at `minute`, by which a standing offer over a held one is judged (17). At
- * minute 30 * P period P has begun, so its slot's next is P + 336. No book is asked and nothing refused: any minute will
- * do, past BILZHAAN_CLOCK_LAST too, and a slot of 336 or more is taken mod 336; a negative number, converted, is another
- * minute or slot. The period, which fits an int32_t, may lie past the horizon (10).
+/* The least period of `slot` that has not begun at `minute`. The gate (17) asks about it for a standing offer over a held one:
+ * how many minutes are left, and which notices and outage hold. At minute 30 * P period P has begun, so its slot's next is
+ * P + 336. No book is asked and nothing refused: any minute will do, past BILZHAAN_CLOCK_LAST too, and a slot of 336 or more
+ * is taken mod 336; a negative number, converted, is another minute or slot. The period, which fits an int32_t, may lie past
+ * the horizon (10).
  * It is worked out by remainders alone, without a branch. */
 uint32_t bilzhaan_next_period(uint32_t minute, uint32_t slot);
 

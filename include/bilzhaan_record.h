@@ -12,13 +12,14 @@ struct bilzhaan_pair {
     int32_t quantity; /* tenths of a MW; 0, and price 0, is a blank pair */
 };
 
-/* A standing offer or a variation. What the call or the service doesn't use stays 0, else the record draws 4.
+/* A standing offer or a variation. What the service doesn't use stays 0, else the record draws 4. Either call files with the
+ * reason that is there: clear one left over from another offer.
  * A standing offer without pairs is one of 0.0 MW; a variation without pairs takes the period's variation back. */
 struct bilzhaan_offer {
     int32_t facility;
     int32_t service;
     int32_t period;     /* of a standing offer: the slot */
-    int32_t reason;     /* of a variation */
+    int32_t reason;     /* why it is filed after gate closure, else 0 */
     int32_t proportion; /* of services 1 to 3: thousandths */
     int32_t ramp_up;    /* of energy: tenths of a MW per minute */
     int32_t ramp_down;
@@ -118,6 +119,8 @@ static inline void bilzhaan_write_capability(uint8_t record[BILZHAAN_RECORD_BYTE
         bilzhaan_word_(record, w0 + 4 * (BILZHAAN_W_REGISTERED + i), c->registered[i]);
 }
 
+/* Over a held one, inside gate closure of the slot's next period, that asks for a reason that holds for this period, and for
+ * the held one's prices, tenth by tenth. A variation for the period, where there is one, stays in force. */
 static inline void bilzhaan_write_standing(uint8_t record[BILZHAAN_RECORD_BYTES], const struct bilzhaan_offer *offer)
 {
     bilzhaan_offer_(record, BILZHAAN_CALL_STANDING, offer);
@@ -251,8 +254,8 @@ static inline const char *bilzhaan_number_text(uint32_t number)
     case BILZHAAN_ABOVE_CAPACITY:
         return "The total is above the generation or the combined maximum (energy), or above the service's own.";
     case BILZHAAN_GATE_CLOSED:
-        return "Gate closure, less than 65 minutes left: a variation whose reason does not hold or that changes a "
-               "price already offered, or a standing offer over a held one.";
+        return "Gate closure, less than 65 minutes left: a variation, or a standing offer over a held one, whose reason "
+               "does not hold or that changes a price already offered.";
     case BILZHAAN_DUPLICATE:
         return "The standing offer equals the one held: proportion, ramps and every pair.";
     case BILZHAAN_NOTHING_IN_FORCE:

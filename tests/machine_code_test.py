@@ -1,6 +1,6 @@
 #!/usr/bin/env python3
 """Reads the machine code of a slot's next period as built for C: "work it out by remainder arithmetic alone, with no if, match or
-loop in that step". Every instruction of it is one of a few that read neither flags nor memory, so none of them jumps or chooses.
+loop in that step". Every instruction of it is one of a few that read no flags, nor memory but fixed places of the stack, so none of them jumps or chooses.
 
 The function for C is read whole; in the call, into which it is compiled, the run from the division by 30, over the remainder by 336, to
 the gate's comparison of minutes. The reader is tried on C functions that give the same periods: those that decide otherwise must be refused.
@@ -21,23 +21,28 @@ Instruction = collections.namedtuple('Instruction', 'address name operands')
 PLAIN = set('mov movabs lea add sub inc dec neg mul imul shl shr xor nop endbr64 ret'.split())
 
 
-def is_plain(instruction):
-    name, operands = instruction.name, instruction.operands
+def is_plain(code, at):
+    name, operands = code[at].name, code[at].operands
     if name == 'shr':
-        return keeps_more_than_the_sign(operands)
-    # memory may be a table of answers
+        return is_of_a_quotient(code, at)
+    if name == 'mov':  # the compiler keeps registers on the stack; half of one is its sign, and where a register picks the place it may be a table of answers
+        operands = re.sub(r'\bQWORD PTR \[rsp([+-]0x[0-9a-f]*[08])?\]', '', operands)
     return name in PLAIN and (name in ('lea', 'nop') or not re.search(r'\[|PTR|[c-gs]s:', operands))
 
 
-def keeps_more_than_the_sign(operands):
-    """Of a shift to the right: 31 of 32 bits, or 63 of 64, leave the sign alone, which is a comparison with 0."""
-    to, _, by = operands.rpartition(',')
+def is_of_a_quotient(code, at):
+    """Of a shift to the right: by half a register's bits or more it leaves the signs of a difference, which is a comparison with 0,
+    but for the upper part of a product, which is a quotient; by all but one it leaves a sign in any case."""
+    to, _, by = code[at].operands.rpartition(',')
     bits = 64 if re.fullmatch(r'r([a-z]{2}|\d+)', to) else 32 if re.fullmatch(r'e[a-z]{2}|r\d+d', to) else 0
-    return re.fullmatch(r'\d+|0x[0-9a-f]+', by) is not None and int(by, 0) < bits - 1
+    if not re.fullmatch(r'\d+|0x[0-9a-f]+', by) or int(by, 0) >= bits - 1:
+        return False
+    before = [i for i in code[:at] if re.match(to + r'\b', i.operands) or to == 'rdx' and i.name == 'mul']
+    return int(by, 0) < bits // 2 or bool(before) and before[-1].name in ('imul', 'mul')
 
 
 def refused(code):
-    return [f'{i.address:x}: {i.name} {i.operands}' for i in code if not is_plain(i)]
+    return [f'{i.address:x}: {i.name} {i.operands}' for at, i in enumerate(code) if not is_plain(code, at)]
 
 
 def objdump(path, *options):
@@ -130,6 +135,7 @@ def test_call(library, code):
 AHEAD = 'uint32_t first = minute / 30 + 1; int32_t ahead = (int32_t)slot - (int32_t)(first % 336); '
 ACCEPTED = {
     'one_remainder': 'uint64_t first = minute / 30 + 1; return (uint32_t)(first + (slot + 335 * first) % 336);',
+    'a_slot_kept': 'volatile uint64_t kept = slot; uint64_t read = kept, first = minute / 30 + 1; __asm__("" : "+r"(read)); return (uint32_t)(first + (read + 335 * first) % 336);',
 }
 REFUSED = {
     'an_if': AHEAD + 'if (ahead < 0) ahead += 336; return first + (uint32_t)ahead;',
@@ -142,6 +148,9 @@ REFUSED = {
     'a_mask': AHEAD + 'return first + (uint32_t)(ahead + (336 & ahead >> 31));',
     'a_sign': AHEAD + 'return first + (uint32_t)ahead + 336 * ((uint32_t)ahead >> 31);',
     'a_table': AHEAD + 'static const uint32_t weeks[2] = {336, 0}; return first + (uint32_t)ahead + weeks[1 + (ahead >> 31)];',
+    'a_table_on_the_stack': AHEAD + 'uint32_t weeks[2] = {336, 0}; __asm__("" : "+m"(weeks)); return first + (uint32_t)ahead + weeks[(uint32_t)(ahead + 336) / 336];',
+    'a_half_on_the_stack': 'uint64_t first = minute / 30 + 1; volatile union { uint64_t whole; uint32_t half[2]; } ahead; ahead.whole = slot - first % 336; return (uint32_t)(first + ahead.whole) - 336 * ahead.half[1];',
+    'a_half_by_a_shift': 'uint64_t first = minute / 30 + 1, ahead = slot - first % 336; return (uint32_t)(first + ahead) - 336 * (uint32_t)(ahead >> 32);',
     'a_division': 'uint64_t first = minute / 30 + 1, week = 336; __asm__("" : "+r"(week)); return (uint32_t)(first + (slot + 335 * first) % week);',
 }
 

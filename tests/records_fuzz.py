@@ -46,7 +46,7 @@ VALUES = {
 }
 MORE = {
     'capability': ('--max-generation', '--max-combined', '--max-ramp-up', '--max-primary-proportion', '--registered'), 'withdrawal': ('--kind',),
-    'standing': ('--proportion', '--ramp-up', '--ramp-down', '--mw'), 'variation': ('--reason', '--proportion', '--ramp-up', '--ramp-down', '--mw'),
+    'standing': ('--reason', '--proportion', '--ramp-up', '--ramp-down', '--mw'), 'variation': ('--reason', '--proportion', '--ramp-up', '--ramp-down', '--mw'),
 }
 NEEDED = {'capability': ('--kind',), 'notice': ('--kind',), 'standing': ('--pairs',), 'variation': ('--pairs',)}
 

@@ -117,6 +117,12 @@ class BytesByHand(Tool):
             00000001 00000002 00000003 00000004 00000005 00000006 00000007 00000008 00000009 0000000a''' + '00000000' * 10)
         self.assertEqual(self.made('standing --facility 0 --service secondary --slot 0 --proportion 625 --pairs 2@1,4@3,6@5,8@7,10@9'), want)
 
+    def test_standing_offer_with_a_reason(self):
+        want = from_hex('''534f42 0001 03 05 00 00000004 02 00 0000 00000000 00000000 00000000 00000000
+            00000fa0 0000012c''' + '00000000' * 18)
+        for reason in ('outage', '2'):
+            self.assertEqual(self.made(f'standing --facility 5 --service energy --slot 4 --reason {reason} --pairs 300@4000'), want)
+
     def test_variation(self):
         want = from_hex('''534f42 0001 04 05 00 00000154 04 00 0000 00000000 00000000 00000000 00000000
             fff92230 000001f4 00001388 0000012c''' + '00000000' * 16)
@@ -279,7 +285,7 @@ class BadArguments(Tool):
         (OFFER + '--pairs 1@1 --proportion 500', 'an offer for energy has no proportion'),
         (OFFER + '--pairs 1@1 --ramp-up -1', 'refuses this with 14'),
         (OFFER + '--pairs 1@1 --ramp-up 10000', 'refuses this with 14'),
-        (OFFER + '--pairs 1@1 --reason 1', 'unrecognized arguments'),
+        (OFFER + '--pairs 1@1 --take-back', 'unrecognized arguments'), (OFFER + '--pairs 1@1 --reason 7', 'refuses this with 11'),
         (OFFER + '--pairs=-1@1', 'refuses this with 11'),
         (OFFER + '--pairs 100000@1', 'refuses this with 11'),
         (OFFER + '--pairs 1@10000001', 'refuses this with 11'),
@@ -682,6 +688,15 @@ class Shown(Tool):
             text = self.rows(f'variation --facility 0 --service 0 --period {period} --pairs 1@1')['gate open']
             self.assertEqual(text.split(' (')[0], f'up to minute {opened[-1]}' if opened else 'at no minute; with a reason only')
 
+    def test_weekly_gate(self):
+        """The same by the slot's next period: 64 minutes of every week ask for a reason."""
+        for slot, text in ((0, 'Sunday, 22:56 until Monday, 00:00'), (1, 'Sunday, 23:26 until Monday, 00:30'), (2, 'Sunday, 23:56 until Monday, 01:00'),
+                           (3, 'Monday, 00:26 until Monday, 01:30'), (4, 'Monday, 00:56 until Monday, 02:00'), (48, 'Monday, 22:56 until Tuesday, 00:00'),
+                           (335, 'Sunday, 22:26 until Sunday, 23:30')):
+            rows = self.rows(f'standing --facility 0 --service 0 --slot {slot} --pairs 1@1')
+            self.assertEqual(rows['gate open'], f'but for {text} every week; then over a held offer with a reason only')
+        self.assertNotIn('gate open', self.rows('standing --facility 0 --service 0 --slot 336 --pairs 1@1 --anyway'))
+
     def test_a_variation_taken_back(self):
         for service, pairs in (('energy', 'pairs 1 to 10'), ('primary', 'pairs 1 to 5'), ('regulation', 'pairs 1 to 5')):
             rows = self.rows(f'variation --facility 0 --service {service} --period 4 --reason outage --take-back')
@@ -710,8 +725,9 @@ class Shown(Tool):
         regulation = (None, 'generation', 'generation', no_kind, 'generation', 'generation', no_kind)
         for service, kinds in enumerate((energy, reserve, reserve, reserve, regulation)):
             for reason, (name, to) in enumerate(zip(names, kinds)):
-                text = self.rows(f'variation --facility 0 --service {service} --period 4 --reason {reason} --pairs 1@1')['reason']
-                self.assertEqual(text, f'{reason} {name} (open to {to})' if to else f'{reason} {name}')
+                for line in ('standing --slot 4', 'variation --period 4'):
+                    text = self.rows(f'{line} --facility 0 --service {service} --reason {reason} --pairs 1@1')['reason']
+                    self.assertEqual(text, f'{reason} {name} (open to {to})' if to else f'{reason} {name}')
         for count, text in ((1, '1 (for generation or load)'), (3, '3 (for generation or load)'), (4, '4 (for load)'), (48, '48 (for load)'), (49, '49'), (0, '0')):
             self.assertEqual(self.rows(f'outage --facility 0 --minute 5 --periods {count} --anyway')['periods'], text)
         rows = self.rows('capability --facility 0 --kind link --registered energy,regulation --anyway')
@@ -824,10 +840,10 @@ class DamagedRecords(Tool):
         used = {
             'clock --minute 5': {24, 25, 26, 27},
             'capability --facility 0 --kind 1': {6} | set(range(32, 100)),
-            'standing --facility 0 --service energy --slot 4 --pairs 1@1': set(range(6, 12)) | set(range(16, 24)) | set(range(32, 112)),
-            'standing --facility 0 --service primary --slot 4 --pairs 1@1': set(range(6, 12)) | {14, 15} | set(range(32, 72)),
-            'standing --facility 0 --service contingency --slot 4 --pairs 1@1': set(range(6, 12)) | {14, 15} | set(range(32, 72)),
-            'standing --facility 0 --service regulation --slot 4 --pairs 1@1': set(range(6, 12)) | set(range(32, 72)),
+            'standing --facility 0 --service energy --slot 4 --pairs 1@1': set(range(6, 13)) | set(range(16, 24)) | set(range(32, 112)),
+            'standing --facility 0 --service primary --slot 4 --pairs 1@1': set(range(6, 13)) | {14, 15} | set(range(32, 72)),
+            'standing --facility 0 --service contingency --slot 4 --pairs 1@1': set(range(6, 13)) | {14, 15} | set(range(32, 72)),
+            'standing --facility 0 --service regulation --slot 4 --pairs 1@1': set(range(6, 13)) | set(range(32, 72)),
             'variation --facility 0 --service energy --period 4 --pairs 1@1': set(range(6, 13)) | set(range(16, 24)) | set(range(32, 112)),
             'variation --facility 0 --service secondary --period 4 --pairs 1@1': set(range(6, 13)) | {14, 15} | set(range(32, 72)),
             'variation --facility 0 --service regulation --period 4 --pairs 1@1': set(range(6, 13)) | set(range(32, 72)),
@@ -911,12 +927,13 @@ class RoundTrip(Tool):
             who = ['--facility', str(facility), '--service', self.random.choice((str(service), names[service].split()[0]))]
             named = {'facility': str(facility), 'service': f'{service} {names[service]}'}
             words, want = self.offer(service)
+            want['reason'] = f'{reason} ' + ('no reason', 'synchronising profile', 'forced outage', 'energy surplus notice', 'shortfall notice',
+                                             'system status notice', 'outage of a load')[reason]
+            words += ['--reason', str(reason)]
             self.check(['standing', *who, '--slot', str(slot), *words], {**named, **want, 'slot': str(slot)})
             if want['total'] == '0.0 MW':
                 words, want = ['--take-back', *words[2:]], {label: text for label, text in want.items() if label != 'total'}
-            self.check(['variation', *who, '--period', str(period), '--reason', str(reason), *words],
-                       {**named, **want, 'period': str(period), 'reason': f'{reason} ' + ('no reason', 'synchronising profile', 'forced outage',
-                        'energy surplus notice', 'shortfall notice', 'system status notice', 'outage of a load')[reason]})
+            self.check(['variation', *who, '--period', str(period), *words], {**named, **want, 'period': str(period)})
             self.check(['look-up', *who, '--period', str(period)], {**named, 'period': str(period)})
             self.check(['total', *who[2:], '--period', str(period)], {'service': named['service'], 'period': str(period)})
 
@@ -965,13 +982,13 @@ class RoundTrip(Tool):
         edge = (0, 1, -1, 2**31 - 1, -2**31, 99999, 100000)
         for _ in range(150):
             service, word = self.random.randint(0, 4), lambda: self.random.choice(edge + (self.random.randint(-2**31, 2**31 - 1),))
-            fields = {'facility': self.random.randint(0, 255), 'service': service, 'period': word()}
+            fields = {'facility': self.random.randint(0, 255), 'service': service, 'period': word(), 'reason': self.random.randint(0, 255)}
             fields['words'] = [word() for _ in range(self.random.randint(0, 20 if service == 0 else 10))]
             if service == 0:
                 fields.update(ramp_up=word(), ramp_down=word())
             if 1 <= service <= 3:
                 fields['proportion'] = self.random.randint(0, 65535)
-            for data in (build(3, **fields), build(4, reason=self.random.randint(0, 255), **fields), build(1, a=word()),
+            for data in (build(3, **fields), build(4, **fields), build(1, a=word()),
                          build(5, facility=fields['facility'], a=word(), b=word()), build(6, reason=self.random.randint(0, 255), a=word(), b=word()),
                          build(2, facility=fields['facility'], words=[word() for _ in range(12)] + [self.random.randint(0, 1) for _ in range(5)])):
                 words = command_for(data)

@@ -30,7 +30,7 @@ then look-up --facility 0 --service energy --period 340'''
 # ---- the nine calls
 
 def offer(options):
-    """Proportion, ramps and pairs, where the service uses them."""
+    """Facility, service and reason; proportion, ramps and pairs, where the service uses them."""
     fields, count = offer_fields(options.service)
     name = SERVICES[options.service]
     for option, field in (('proportion', 'proportion'), ('ramp_up', 'ramp up'), ('ramp_down', 'ramp down')):
@@ -42,7 +42,7 @@ def offer(options):
                           'the least that can be filed is 0.1 MW')
     if len(pairs) > count:
         raise BadArgument(f'{len(pairs)} pairs, and an offer for {name} has {count}')
-    return {'facility': options.facility, 'service': options.service, 'proportion': within(options.proportion or 0, 0, 65535, 'proportion'),
+    return {'facility': options.facility, 'service': options.service, 'reason': options.reason or 0, 'proportion': within(options.proportion or 0, 0, 65535, 'proportion'),
             'ramp_up': options.ramp_up or 0, 'ramp_down': options.ramp_down or 0, 'words': [value for pair in pairs for value in pair]}
 
 
@@ -56,7 +56,7 @@ BUILD = {
     'clock': lambda o: build(1, a=o.minute),
     'capability': capability,
     'standing': lambda o: build(3, period=o.slot, **offer(o)),
-    'variation': lambda o: build(4, period=o.period, reason=o.reason or 0, **offer(o)),
+    'variation': lambda o: build(4, period=o.period, **offer(o)),
     'outage': lambda o: build(5, facility=o.facility, a=o.minute, b=o.periods),
     'notice': lambda o: build(6, reason=o.kind, a=o.first, b=o.last),
     'withdrawal': lambda o: build(7, reason=5 if o.kind is None else o.kind),

@@ -179,6 +179,11 @@ def show_minute(value):
     return f'{value} (day {day}, {WEEKDAYS[day % 7]}, {show_time(value % 1440)})'
 
 
+def show_weekly(value):
+    """A minute of any week, by weekday and time."""
+    return f'{WEEKDAYS[value // 1440 % 7]}, {show_time(value % 1440)}'
+
+
 def show_period(value):
     if value < 0:
         return f'{value} (before day 0)'

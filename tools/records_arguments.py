@@ -189,8 +189,9 @@ def add_call_options(name, parser):
         parser.add_argument('--registered', type=services, action=Once, metavar='SERVICE,..', help='services it is registered for' + ''.join(
             f"; a {kind.name}'s: {', '.join(SERVICES[s] for s in kind.marks)}" for kind in KINDS.values() if len(kind.marks) < len(SERVICES)))
         parser.epilog = "A link's import capacity is its generation maximum; the combined one binds its energy as well."
-    if name == 'variation':
-        parser.add_argument('--reason', type=reason, action=Once, metavar='R', help=', '.join(REASONS) + ', or 0 to 6')
+    if name in ('standing', 'variation'):
+        asked = 'asked for inside the gate' + (', over a held offer' if name == 'standing' else '')
+        parser.add_argument('--reason', type=reason, action=Once, metavar='R', help=', '.join(REASONS) + f', or 0 to 6; {asked}')
     if name in ('notice', 'withdrawal'):
         parser.add_argument('--kind', type=notice, action=Once, required=name == 'notice', metavar='KIND',
                             help='surplus, shortfall or status, or 3 to 5' + ('' if name == 'notice' else '; status if left out, and no other can be withdrawn'))

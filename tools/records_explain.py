@@ -1,7 +1,7 @@
 """What a record says, in words: its fields, stray bytes, the record test, and the command that makes it again."""
 from itertools import groupby
 
-from records_amounts import show_minute, show_mw, show_period, show_price, show_proportion, show_ramp, show_slot
+from records_amounts import show_minute, show_mw, show_period, show_price, show_proportion, show_ramp, show_slot, show_weekly
 from records_layout import (CALLS, KIND_NAMES, LENGTH, NOTICES, REASONS, SCHEDULE_CUTOFF_MINUTES, SERVICES, SERVICE_TEXTS, alternatives,
                             any_book_refuses, field_at, form_faults, kinds_with, offer_fields, pairs_of, read, record_test, stray_bytes, takes_back)
 
@@ -50,11 +50,21 @@ def offer_rows(service, proportion, ramp_up, ramp_down, words):
     return rows + pair_rows(words, count) + [('total', show_mw(sum(words[1::2])))]
 
 
-def open_row(period):
+def last_open(period):
     """'A variation is open when 30 P - now is 65 or more.'"""
-    last = 30 * period - 65
+    return 30 * period - 65
+
+
+def open_row(period):
+    last = last_open(period)
     text = f'up to minute {show_minute(last)}; after it with a reason only' if last >= 0 else 'at no minute; with a reason only'
     return 'gate open', text
+
+
+def slot_open_row(slot):
+    """The same by the slot's next period, for a standing offer over a held one."""
+    closes, starts = show_weekly(last_open(slot) + 1), show_weekly(30 * slot)
+    return 'gate open', f'but for {closes} until {starts} every week; then over a held offer with a reason only'
 
 
 def capability_rows(words):
@@ -99,8 +109,12 @@ def field_rows(r):
         rows.append(('slot', show_slot(r.period)))
     if r.call in (4, 8, 9):
         rows.append(('period', show_period(r.period)))
+    if r.call in (3, 4):
+        rows.append(('reason', reason_text(r)))
     if r.call == 4:
-        rows += [('reason', reason_text(r)), open_row(r.period)]
+        rows.append(open_row(r.period))
+    if r.call == 3 and 0 <= r.period <= 335:
+        rows.append(slot_open_row(r.period))
     if r.call in (3, 4) and r.service < 5:
         rows += offer_rows(r.service, *used_offer(r))
     if takes_back(r):
@@ -191,7 +205,7 @@ def call_words(r):
     reason = ['--reason', REASONS[r.reason] if r.reason <= 6 else str(r.reason)] if r.reason else []
     return {
         1: lambda: ['--minute', str(r.a)], 2: lambda: facility + capability_words(r.words),
-        3: lambda: facility + service + ['--slot', str(r.period)] + offer_words(r), 4: lambda: facility + service + period + reason + offer_words(r),
+        3: lambda: facility + service + ['--slot', str(r.period)] + reason + offer_words(r), 4: lambda: facility + service + period + reason + offer_words(r),
         5: lambda: facility + ['--minute', str(r.a), '--periods', str(r.b)], 6: lambda: kind + ['--first', str(r.a), '--last', str(r.b)],
         7: lambda: kind, 8: lambda: facility + service + period, 9: lambda: service + period,
     }[r.call]()

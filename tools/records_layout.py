@@ -67,7 +67,7 @@ def alternatives(words):
 # ---- "The nine calls and what they use"
 
 USES = {
-    1: ('A',), 2: ('facility',), 3: ('facility', 'service', 'period word'), 4: ('facility', 'service', 'period word', 'reason'),
+    1: ('A',), 2: ('facility',), 3: ('facility', 'service', 'period word', 'reason'), 4: ('facility', 'service', 'period word', 'reason'),
     5: ('facility', 'A', 'B'), 6: ('reason', 'A', 'B'), 7: ('reason',), 8: ('facility', 'service', 'period word'), 9: ('service', 'period word'),
 }
 

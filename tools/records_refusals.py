@@ -52,9 +52,9 @@ REFUSALS = {
                 "The total is above the generation or the combined maximum (energy), or above the service's own.",
                 'The quantities. A link needs both maxima filed.'),
     17: Refusal('gate closed', '', COORDINATOR,
-                'Gate closure, less than 65 minutes left: a variation whose reason does not hold or that changes a price already offered,'
-                ' or a standing offer over a held one.',
-                'A variation: a reason that holds, and prices kept. A standing offer: wait until its next period has begun.'),
+                'Gate closure, less than 65 minutes left: a variation, or a standing offer over a held one, whose reason does not hold or that'
+                ' changes a price already offered.',
+                "A reason that holds, and prices kept; or, for a standing offer, wait until its slot's next period has begun."),
     18: Refusal('duplicate', 'the standing offer is the one that is held', COORDINATOR,
                 'The standing offer equals the one held: proportion, ramps and every pair.', 'Nothing; it is held, and no fresher for it.'),
     19: Refusal('nothing in force', '', 'the reader', 'Look-up: no variation and no standing offer is in force.',

@@ -9,6 +9,7 @@
 long passed, failed;
 long drawn[20], accepted[10], inside_gate[7], past_another_period;
 long taken_back[2][2], taken_back_inside[7], not_taken_back, taken_back_damaged;
+struct revisions revisions;
 long of_links[20], accepted_of_links[10], links_inside_gate[7], links_marked;
 long shown[5], at_age[2][AGES], duplicated_later, varied_again, uncovered[2];
 long ramps_below_0, minutes_to_come, minutes_below_0, ages_past_32_bits, duplicated_damaged, ramps_past_9999, of_version_1;
@@ -188,6 +189,58 @@ static void count_call(const struct list *l, const struct bilzhaan_answer *a, in
     }
 }
 
+/* ---- standing offers inside gate closure ---- */
+
+/* How a standing offer stands to the words before its call. */
+struct revision {
+    bool is_one, is_held, is_inside, is_hidden, is_next_week;
+};
+
+static struct revision revision_of(const struct list *l, int64_t now)
+{
+    struct revision v = {false, false, false, false, false};
+    const uint8_t *b = l->bytes;
+    int32_t f = l->plain[2], s = l->plain[3];
+    if (!usable_sizes(l) || now < 0 || now > 1000000000 || list_machine_record_number(b, l->length, f, s) != 0
+        || b[BILZHAAN_AT_CALL] != BILZHAAN_CALL_STANDING || period_of(b) > 335)
+        return v;
+    int64_t slot = period_of(b), next = plain_next_period((uint32_t)now, (uint32_t)slot);
+    v.is_one = true;
+    v.is_held = l->plain[place_of_cell(f, s, b[BILZHAAN_AT_FACILITY], b[BILZHAAN_AT_SERVICE], 0, slot)] == 1;
+    v.is_hidden = l->plain[place_of_cell(f, s, b[BILZHAAN_AT_FACILITY], b[BILZHAAN_AT_SERVICE], 1, slot)] == next + 1;
+    v.is_inside = 30 * next - now < 65;
+    v.is_next_week = next / 336 > now / 30 / 336;
+    return v;
+}
+
+static void count_revision(const struct list *l, struct revision v, const struct bilzhaan_answer *a)
+{
+    const uint8_t *b = l->bytes;
+    int reason = b[BILZHAAN_AT_REASON];
+    int32_t kind = l->plain[64 + 32 * (size_t)b[BILZHAAN_AT_FACILITY]];
+    bool is_accepted = a->number == 0;
+    if (l->is_damaged) {
+        revisions.damaged += is_accepted && v.is_held && v.is_inside;
+        return;
+    }
+    revisions.past_6 += a->number == BILZHAAN_OUT_OF_RANGE && reason > 6;
+    revisions.first_with_reason += is_accepted && reason != 0 && !v.is_held && v.is_inside;
+    revisions.open_with_reason += is_accepted && reason != 0 && v.is_held && !v.is_inside;
+    if (!v.is_held || !v.is_inside)
+        return;
+    if (is_accepted) {
+        revisions.accepted[reason]++;
+        revisions.of_links[reason] += kind == BILZHAAN_LINK;
+        revisions.to_blank += offers_nothing(b);
+        revisions.behind_variation += v.is_hidden;
+        revisions.for_next_week += v.is_next_week;
+    } else if (a->number == BILZHAAN_GATE_CLOSED) {
+        revisions.refused[reason != 0]++;
+        revisions.repriced += reason == BILZHAAN_REASON_SYNCHRONISATION && kind == BILZHAAN_GENERATION;
+    }
+    revisions.duplicates += a->number == BILZHAAN_DUPLICATE;
+}
+
 /* ---- minutes and ramps ---- */
 
 /* The cell that an accepted or a duplicate offer is for, or that a look-up answers from. */
@@ -297,6 +350,7 @@ void compared_call(struct list *l, struct random *r, const uint8_t *bytes, size_
     bool compare_words = random_bits(r) % every == 0;
     int64_t now = l->plain[4];
     bool is_take_back = takes_back(l);
+    struct revision revision = revision_of(l, now);
     const int32_t *varied = variation_before(l);
     int32_t before[24] = {0};
     if (varied)
@@ -328,4 +382,6 @@ void compared_call(struct list *l, struct random *r, const uint8_t *bytes, size_
     varied_again += varied && differs_in_minute_alone(before, varied);
     if (is_take_back)
         count_take_back(l, &a, now);
+    if (revision.is_one)
+        count_revision(l, revision, &a);
 }

@@ -18,6 +18,17 @@ extern long past_another_period; /* look-ups where the variation cell held anoth
 /* Variations of blanks alone, where the period had a variation: accepted with the gate open (0) and inside it (1), each without
  * a standing offer and with one to go back to; inside it by reason; refused with 17; accepted inside it on a damaged book. */
 extern long taken_back[2][2], taken_back_inside[7], not_taken_back, taken_back_damaged;
+/* Standing offers and the gate closure of their slot's next period. */
+extern struct revisions {
+    long accepted[7], of_links[7];  /* over a held one inside it, by reason; of these: */
+    long to_blank, behind_variation, for_next_week; /* blanks alone; a variation in force; a period of the week after now's */
+    long refused[2];                /* with 17, without a reason and with one; of these: */
+    long repriced;                  /* by prices alone: generation with reason 1 */
+    long duplicates;                /* 18 inside it */
+    long first_with_reason, open_with_reason; /* accepted with a reason that isn't asked for */
+    long past_6;                    /* with 11, by the reason */
+    long damaged;                   /* accepted inside it on a damaged book */
+} revisions;
 /* Offers and their minutes. On sound books: look-ups by word 0 (1 to 4), and by age up to 7 minutes, of a standing offer (0) and a
  * variation (1); duplicates of an offer of an earlier minute; variations filed again at a later minute; take-backs to a standing
  * offer that isn't fresh (0) and to one that is (1). On damaged books: look-ups of a ramp below 0, of a minute later than the clock,

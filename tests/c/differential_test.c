@@ -132,7 +132,7 @@ static void copied_offer(struct list *l, struct random *r, size_t cell, int32_t 
     }
 }
 
-/* Offers with damaged quantities near gate closure, in one of the two cells or in both; then variations and readings. */
+/* Offers with damaged quantities near gate closure, in one of the two cells or in both; then offers and readings. */
 static void damaged_near_gate(struct list *l, struct random *r, struct scene *scene)
 {
     int64_t now = l->plain[4];
@@ -159,9 +159,10 @@ static void damaged_near_gate(struct list *l, struct random *r, struct scene *sc
         damaged_offer(l, r, variation, (int32_t)period + 1);
     if (which >= 2)
         copied_offer(l, r, variation, (int32_t)period + 1, standing);
-    for (int i = 0; i < 6 && !l->is_wrong; i++) {
+    for (int i = 0; i < 8 && !l->is_wrong; i++) {
         struct record record = i == 0 ? look_up_of(f, s, (int32_t)period) : i == 1 ? total_of(s, (int32_t)period)
-                                                                     : random_variation(r, scene, f, s, period);
+                             : one_in(r, 3)                                        ? random_standing(r, scene, f, s, period)
+                                                                                   : random_variation(r, scene, f, s, period);
         compared_call(l, r, record.bytes, sizeof record.bytes);
     }
 }
@@ -314,6 +315,41 @@ static void tried_minutes(void)
     tried("book of version 1", 1, of_version_1);
 }
 
+/* What came of standing offers and the gate. */
+static void print_revisions(void)
+{
+    const struct revisions *v = &revisions;
+    printf("\nstanding offers over a held one, accepted inside gate closure by reason:");
+    for (int i = 1; i <= 6; i++)
+        printf(" %d:%ld", i, v->accepted[i]);
+    printf("; of links 3:%ld 4:%ld 5:%ld; of blanks %ld, behind a variation %ld, for a period of the next week %ld", v->of_links[3],
+           v->of_links[4], v->of_links[5], v->to_blank, v->behind_variation, v->for_next_week);
+    printf("; 17 without a reason %ld, with one %ld, by prices alone %ld; 18 inside it %ld", v->refused[0], v->refused[1], v->repriced,
+           v->duplicates);
+    printf("; reasons that aren't asked for: of first ones inside it %ld, of open ones %ld; 11 by the reason %ld; on damaged books inside"
+           " it: %ld", v->first_with_reason, v->open_with_reason, v->past_6, v->damaged);
+}
+
+static void tried_revisions(void)
+{
+    const struct revisions *v = &revisions;
+    for (int i = 1; i <= 6; i++)
+        tried("standing offer inside gate closure, reason", i, v->accepted[i]);
+    for (int i = 3; i <= 5; i++)
+        tried("standing offer of a link inside gate closure, reason", i, v->of_links[i]);
+    tried("standing offer of blanks inside gate closure", 0, v->to_blank);
+    tried("standing offer behind a variation inside gate closure", 0, v->behind_variation);
+    tried("standing offer inside gate closure for a period of the next week", 0, v->for_next_week);
+    for (int i = 0; i <= 1; i++)
+        tried(i ? "standing offer refused with a reason" : "standing offer refused without a reason", 17, v->refused[i]);
+    tried("standing offer refused by its prices alone", 17, v->repriced);
+    tried("duplicate inside gate closure", 18, v->duplicates);
+    tried("first standing offer inside gate closure with a reason", 0, v->first_with_reason);
+    tried("open standing offer with a reason", 0, v->open_with_reason);
+    tried("standing offer's reason above 6", 11, v->past_6);
+    tried("standing offer inside gate closure on a damaged book", 0, v->damaged);
+}
+
 static void print_counts(void)
 {
     printf("%ld lists, %ld of them damaged at the end\nnumbers drawn:", lists, damaged_lists);
@@ -333,6 +369,7 @@ static void print_counts(void)
     printf("; refused with 17: %ld; on damaged books inside it: %ld", not_taken_back, taken_back_damaged);
     printf("\nlook-ups past a variation of another period of the slot: %ld", past_another_period);
     print_minutes();
+    print_revisions();
     printf("\nlinks, numbers drawn:");
     for (int i = 0; i < 20; i++)
         if (of_links[i] > 0)
@@ -364,6 +401,7 @@ static void print_counts(void)
         tried("reason of a link inside gate closure", i, links_inside_gate[i]);
     tried("mark that a link may not have", 9, links_marked);
     tried_minutes();
+    tried_revisions();
 }
 
 static double seconds_now(void)

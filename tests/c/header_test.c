@@ -283,7 +283,11 @@ static void reasons(void)
             EQUAL(number_of(notice_of(tries[i].notice, 100, 100)), BILZHAAN_ACCEPTED);
         if (tries[i].outage)
             EQUAL(number_of(outage_of(0, 2990, 1)), BILZHAAN_ACCEPTED);
-        EQUAL(number_of(varied(BILZHAAN_ENERGY, tries[i].reason, 5, tries[i].quantity)), tries[i].number);
+        struct record r = varied(BILZHAAN_ENERGY, tries[i].reason, 5, tries[i].quantity);
+        EQUAL(number_of(r), tries[i].number);
+        /* the standing offer itself by the same reason: the one that is held is a duplicate */
+        int is_held = tries[i].number == BILZHAAN_ACCEPTED && tries[i].quantity == 100;
+        EQUAL(number_of(with_byte(r, BILZHAAN_AT_CALL, BILZHAAN_CALL_STANDING)), is_held ? BILZHAAN_DUPLICATE : tries[i].number);
     }
     /* a load's outage; reason 7 is out of range */
     open_usual(2990);

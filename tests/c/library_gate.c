@@ -36,7 +36,7 @@ static void minutes(void)
 }
 
 /* "A standing offer over a held one (stamp 1) is refused inside 65 minutes of the slot's next period not yet begun ..
- * A first one always passes the gate." */
+ * A first one always passes the gate." Here without reasons. */
 static void standing_offers(void)
 {
     struct book b = usual_book(0);

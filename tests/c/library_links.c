@@ -184,9 +184,13 @@ static void reasons(void)
             EQUAL(number_of(&b, varied(reason, 0)), BILZHAAN_GATE_CLOSED);
     EQUAL(number_of(&b, varied(3, 0)), 0);
     EQUAL(call(&b, look_up_of(0, 0, 100)).words[0], BILZHAAN_STANDING_IN_FORCE);
-    /* a standing offer over a held one has no reason to give */
-    EQUAL(number_of(&b, offered(BILZHAAN_CALL_STANDING, 0, 100, 0, 60)), BILZHAAN_GATE_CLOSED);
-    EQUAL(number_of(&b, offered(BILZHAAN_CALL_STANDING, 0, 101, 0, 60)), 0);
+    /* a standing offer over a held one by the same reasons, a first one by any */
+    for (int reason = 0; reason <= 6; reason++) {
+        bool more = reason == 4 || reason == 5;
+        EQUAL(number_of(&b, offered(BILZHAAN_CALL_STANDING, 0, 100, reason, 60 + reason)), more ? 0 : BILZHAAN_GATE_CLOSED);
+        EQUAL(number_of(&b, offered(BILZHAAN_CALL_STANDING, 0, 101 + reason, reason, 60)), 0);
+    }
+    EQUAL(number_of(&b, offered(BILZHAAN_CALL_STANDING, 0, 100, 3, 64)), 0);
 }
 
 /* ---- damaged books ---- */

@@ -59,7 +59,7 @@ static void function_at(uint32_t minute, const uint32_t next[SLOTS])
     next_is(minute, slot, next[slot]);
 }
 
-/* The same of calls: "refused inside 65 minutes of the slot's next period not yet begun". Every slot holds an offer, and
+/* The same of calls without a reason: "refused inside 65 minutes of the slot's next period not yet begun". Every slot holds an offer, and
  * the one that is filed is another, so that 18 isn't drawn. */
 static void calls_at(struct book *b, int32_t held[SLOTS], uint32_t minute, const uint32_t next[SLOTS])
 {

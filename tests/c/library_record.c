@@ -20,7 +20,7 @@ static struct record sample(int i)
     case 6: return total_of(4, 12);
     }
     int s = (i - 7) % 5;
-    r = i < 12 ? offer_for(BILZHAAN_CALL_STANDING, 1, s, 300, 0) : offer_for(BILZHAAN_CALL_VARIATION, 1, s, 300, 6);
+    r = offer_for(i < 12 ? BILZHAAN_CALL_STANDING : BILZHAAN_CALL_VARIATION, 1, s, 300, 6);
     for (int pair = 0; pair < (s == 0 ? 10 : 5); pair++)
         set_pair(&r, pair, 1000 + pair, 256 + pair);
     if (s == 0)
@@ -42,7 +42,7 @@ static bool uses(const struct record *r, int byte)
     switch (which) {
     case BILZHAAN_CALL_CLOCK: return byte < 6 || a;
     case BILZHAAN_CALL_CAPABILITY: return byte < 6 || facility || (byte >= 32 && byte < 100);
-    case BILZHAAN_CALL_STANDING: return byte < 6 || facility || service || period || offer;
+    case BILZHAAN_CALL_STANDING:
     case BILZHAAN_CALL_VARIATION: return byte < 6 || facility || service || period || reason || offer;
     case BILZHAAN_CALL_OUTAGE: return byte < 6 || facility || a || b;
     case BILZHAAN_CALL_NOTICE: return byte < 6 || reason || a || b;

@@ -4,15 +4,16 @@
 
 #include "check.h"
 
-void test_records(void);     /* library_record.c */
-void test_opening(void);     /* library_opening.c */
-void test_refusals(void);    /* library_refusals.c */
-void test_gate(void);        /* library_gate.c */
-void test_next_period(void); /* library_next_period.c */
-void test_taken_back(void);  /* library_taken_back.c */
-void test_links(void);       /* library_links.c */
-void test_fresh(void);       /* library_fresh.c */
-void test_damaged(void);     /* library_damaged.c */
-void test_lent(void);        /* library_lent.c */
+void test_records(void);          /* library_record.c */
+void test_opening(void);          /* library_opening.c */
+void test_refusals(void);         /* library_refusals.c */
+void test_gate(void);             /* library_gate.c */
+void test_next_period(void);      /* library_next_period.c */
+void test_taken_back(void);       /* library_taken_back.c */
+void test_standing_reasons(void); /* library_standing_reasons.c */
+void test_links(void);            /* library_links.c */
+void test_fresh(void);            /* library_fresh.c */
+void test_damaged(void);          /* library_damaged.c */
+void test_lent(void);             /* library_lent.c */
 
 #endif

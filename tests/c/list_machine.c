@@ -70,11 +70,9 @@ static void used_bytes(rec r, bool used[112])
         use(used, 6, 6);
         use(used, 32, 99);
         break;
+    case 3: /* "facility, service, period word (a slot), offer"; "Call 3 now uses byte 12 for a reason." */
     case 4: /* "the same with P for the slot, and reason" */
-        use(used, 12, 12);
-        /* fall through */
-    case 3: /* "facility, service, period word (a slot), offer" */
-        use(used, 6, 11);
+        use(used, 6, 12);
         if (service_of(r) == 0) { /* "An offer for service 0 uses both ramps and ten pairs" */
             use(used, 16, 23);
             use(used, 32, 111);
@@ -246,10 +244,9 @@ static bool same_prices(rec old, rec new)
     return true;
 }
 
-static bool reason_holds(const machine *m, rec r, rec old, rec new)
+static bool reason_holds(const machine *m, rec r, int64_t period, rec old, rec new)
 {
     int f = facility_of(r);
-    int64_t period = period_of(r);
     int64_t old_total = gate_total(old);
     int64_t new_total = gate_total(new);
     if (!has_digit(kind(m, f)->reasons, reason_of(r)))
@@ -270,6 +267,15 @@ static bool reason_holds(const machine *m, rec r, rec old, rec new)
     return false; /* "Inside that it needs a reason" */
 }
 
+/* Of either filing: "The reasons and the tenth-by-tenth price condition are those of a variation." */
+static bool passes_gate(const machine *m, rec r, int64_t period, rec old, rec new)
+{
+    /* "A variation is open when 30·P − now is 65 or more." */
+    if (30 * period - now(m) >= 65)
+        return true;
+    return reason_holds(m, r, period, old, new) && same_prices(old, new);
+}
+
 /* "The gate compares old with the offer that will stand afterwards." "An accepted variation whose pairs are all blank
  * now means: no variation." */
 static rec stands_afterwards(const machine *m, rec r)
@@ -277,15 +283,11 @@ static rec stands_afterwards(const machine *m, rec r)
     return all_pairs_blank(r) ? standing(m, facility_of(r), service_of(r), period_of(r) % 336) : r;
 }
 
+/* "Old is the offer in force before the call" */
 static bool variation_passes_gate(const machine *m, rec r)
 {
-    /* "A variation is open when 30·P − now is 65 or more." */
-    if (30 * period_of(r) - now(m) >= 65)
-        return true;
-    /* "Old is the offer in force before the call" */
     rec old = in_force(m, facility_of(r), service_of(r), period_of(r));
-    rec new = stands_afterwards(m, r);
-    return reason_holds(m, r, old, new) && same_prices(old, new);
+    return passes_gate(m, r, period_of(r), old, stands_afterwards(m, r));
 }
 
 /* "the least period of that slot not yet begun, at slot boundaries as well", where "begun (30·P ≤ now)": by counting */
@@ -297,13 +299,12 @@ int64_t list_machine_next_period(int64_t minute, int64_t slot)
     return next;
 }
 
-/* "A standing offer over a held one (stamp 1) is refused inside 65 minutes of the slot's next period not yet begun,
- * reasons or not. A first one always passes the gate." */
+/* "A first one always passes the gate." "P is the slot's next period not yet begun; old is the held standing offer, new the
+ * one filed." */
 static bool standing_passes_gate(const machine *m, rec r)
 {
-    if (!standing(m, facility_of(r), service_of(r), period_of(r)))
-        return true;
-    return 30 * list_machine_next_period(now(m), period_of(r)) - now(m) >= 65;
+    rec old = standing(m, facility_of(r), service_of(r), period_of(r));
+    return !old || passes_gate(m, r, list_machine_next_period(now(m), period_of(r)), old, r);
 }
 
 /* ---- "Who draws which number": whether each applies, where no lower one does ---- */

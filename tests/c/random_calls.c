@@ -312,14 +312,16 @@ static struct record offer_at(struct random *r, struct scene *scene, int which, 
     } else if (which == BILZHAAN_CALL_STANDING) {
         period = one_in(r, 2) ? 336 : -1;
     }
-    int reason = which == BILZHAAN_CALL_VARIATION ? some_reason(r, scene, f, s, period) : 0;
+    bool varies = which == BILZHAAN_CALL_VARIATION;
+    int64_t judged_for = varies ? period : not_begun(scene, period);
+    int reason = varies || !one_in(r, 4) ? some_reason(r, scene, f, s, judged_for) : 0;
     struct record record = offer_for(which, f, s, (int32_t)period, reason);
     const int32_t *held = held_for(scene, f, s, filed_for);
-    if (held && which == BILZHAAN_CALL_VARIATION && one_in(r, 3) && cell_of(scene, f, s, 0, period % 336)[0] == 1)
+    if (held && varies && one_in(r, 3) && cell_of(scene, f, s, 0, period % 336)[0] == 1)
         held = cell_of(scene, f, s, 0, period % 336);
-    if (which == BILZHAAN_CALL_STANDING && period >= 0 && period < 336 && cell_of(scene, f, s, 0, period)[0] == 1)
+    if (!varies && period >= 0 && period < 336 && cell_of(scene, f, s, 0, period)[0] == 1)
         held = cell_of(scene, f, s, 0, period);
-    if (held && one_in(r, which == BILZHAAN_CALL_STANDING ? 3 : 8)) {
+    if (held && one_in(r, varies ? 8 : 3)) {
         copy_cell(held, s, &record);
     } else {
         struct draft d;
@@ -344,6 +346,26 @@ static struct record some_offer(struct random *r, struct scene *scene, int which
         return offer_at(r, scene, which, key_f, key_s, not_begun(scene, scene->keys[key].period));
     int f = some_facility(r, scene), s = some_service(r, scene, f);
     return offer_at(r, scene, which, f, s, some_period(r, scene));
+}
+
+struct record random_standing(struct random *r, struct scene *scene, int f, int s, int64_t period)
+{
+    return offer_at(r, scene, BILZHAAN_CALL_STANDING, f, s, period);
+}
+
+/* Mostly over an offer held for a slot whose next period is inside the gate, the first such key from a random one on. */
+static struct record some_revision(struct random *r, struct scene *scene)
+{
+    unsigned from = (unsigned)(random_bits(r) % SCENE_KEYS);
+    for (unsigned i = 0; i < SCENE_KEYS && !one_in(r, 20); i++) {
+        unsigned key = (from + i) % SCENE_KEYS;
+        int f = scene->keys[key].facility, s = scene->keys[key].service;
+        int64_t period = scene->keys[key].period < 0 ? 0 : not_begun(scene, scene->keys[key].period % 336);
+        if (f < scene->facilities && s < scene->services && 30 * period - now_of(scene) < 65
+            && cell_of(scene, f, s, 0, period % 336)[0] == 1)
+            return random_standing(r, scene, f, s, period);
+    }
+    return some_offer(r, scene, BILZHAAN_CALL_STANDING);
 }
 
 /* ---- variations taken back ---- */
@@ -568,7 +590,7 @@ size_t random_call(struct random *r, struct scene *scene, uint8_t bytes[LONGEST_
     else if (choice < 20)
         record = some_capability(r, scene);
     else if (choice < 36)
-        record = some_offer(r, scene, BILZHAAN_CALL_STANDING);
+        record = one_in(r, 3) ? some_revision(r, scene) : some_offer(r, scene, BILZHAAN_CALL_STANDING);
     else if (choice < 62)
         record = one_in(r, 4) ? some_take_back(r, scene) : some_offer(r, scene, BILZHAAN_CALL_VARIATION);
     else if (choice < 68)

@@ -50,4 +50,7 @@ struct record held_again(const struct scene *scene, int f, int s, int64_t slot);
 /* A variation of this facility and service for this period, mostly near to the offer that stands, or of blanks alone. */
 struct record random_variation(struct random *r, struct scene *scene, int f, int s, int64_t period);
 
+/* A standing offer for this period's slot, mostly near to the one that is held, with a reason for most. */
+struct record random_standing(struct random *r, struct scene *scene, int f, int s, int64_t period);
+
 #endif

@@ -165,6 +165,8 @@ static void out_of_range(void)
         struct bilzhaan_offer o = {.facility = 1, .service = 1, .period = 100, .reason = value, .pairs = {{1, 1}}};
         bilzhaan_write_variation(written, &o);
         EQUAL(filed(), BILZHAAN_OUT_OF_RANGE);
+        bilzhaan_write_standing(written, &o);
+        EQUAL(filed(), BILZHAAN_OUT_OF_RANGE);
         o.reason = 0;
         o.facility = value;
         bilzhaan_write_variation(written, &o);
@@ -227,6 +229,29 @@ static void answered(void)
     EQUAL(filed(), BILZHAAN_ACCEPTED);
     a = look_up(1, 2);
     EQUAL(bilzhaan_answered_offer(&a).proportion, 65535);
+}
+
+/* A set trips inside gate closure: its standing offer, field by name, without the reason and with it. */
+static void standing_in_an_outage(void)
+{
+    struct bilzhaan_offer o = {.period = 100, .pairs = {{1, 9}}};
+    open_with_a_load();
+    bilzhaan_write_standing(written, &o);
+    EQUAL(filed(), BILZHAAN_ACCEPTED);
+    bilzhaan_write_clock(written, 2970);
+    EQUAL(filed(), BILZHAAN_ACCEPTED);
+    bilzhaan_write_outage(written, 0, 2970, 3);
+    EQUAL(filed(), BILZHAAN_ACCEPTED);
+    o.pairs[0].quantity = 5;
+    bilzhaan_write_standing(written, &o);
+    EQUAL(filed(), BILZHAAN_GATE_CLOSED);
+    o.reason = BILZHAAN_REASON_FORCED_OUTAGE;
+    bilzhaan_write_standing(written, &o);
+    EQUAL(filed(), BILZHAAN_ACCEPTED);
+    struct bilzhaan_answer a = look_up(0, BILZHAAN_ENERGY);
+    EQUAL(bilzhaan_is_variation(&a), 0);
+    EQUAL(a.sum, 5);
+    EQUAL(bilzhaan_answered_offer(&a).reason, BILZHAAN_REASON_NONE);
 }
 
 /* A variation without pairs is the record that takes one back. */
@@ -305,6 +330,7 @@ int main(int count, char **arguments)
     offers();
     out_of_range();
     answered();
+    standing_in_an_outage();
     taken_back();
     variation_and_fresh();
     import_link();

@@ -7,7 +7,7 @@
 #include "script.h"
 
 enum { LIBRARY, PLAIN_BOOK, LIST_MACHINE, BOOKS };
-enum { FIRST_LEVEL = 3, LEVEL = 4, GUARD = 8, CANARY = 0x5A5A5A5A, ANSWER_ROOM = 1 << 14 }; /* answers of these levels hold */
+enum { FIRST_LEVEL = 5, LEVEL = 5, GUARD = 8, CANARY = 0x5A5A5A5A, ANSWER_ROOM = 1 << 14 }; /* answers of these levels hold */
 
 /* A list's words, lent to the library and to the plain book, with GUARD canaries before and after each. */
 struct books {

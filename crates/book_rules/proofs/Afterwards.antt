@@ -11,14 +11,12 @@ use lib.ListN.{length}
 use borrow.Author.Tests.{eq-eqb, ne-eqb}
 use Rattle.offer_rules.specs.Numbers.{toNat, word}
 use Rattle.offer_rules.specs.Time.{slots, slot-of}
-use Rattle.offer_rules.specs.Offer.{Pair, pairs, Held, accepted-at, all-blank}
-use Rattle.offer_rules.specs.Gate.{gate-refuses}
+use Rattle.offer_rules.specs.Offer.{pairs, Held, accepted-at, all-blank}
 use Rattle.book_rules.specs.Record.{call-of, facility-of, service-of, period-word, reason-of, offer-in}
 use Rattle.book_rules.specs.Words.{part, put, book-size, cell-place, standing-half, variation-half, cell, cell-held, holding, standing-stamp, variation-stamp}
 use Rattle.book_rules.specs.Force.{first-of, in-force, variation-made, will-stand, pairs-of}
-use Rattle.book_rules.specs.Refusals.{grounds}
 use Rattle.book_rules.specs.Book.{facilities-in, services-in, now-in, held, cell-in, write-cell, book-view, book-after}
-use Rattle.book_rules.specs.ByNumber.{conditions-from-5, conditions, applies}
+use Rattle.book_rules.specs.ByNumber.{own-gate, conditions-from-5, conditions, applies}
 use Rattle.book_rules.specs.Claims.{is-accepted, force-for, StandsAfterwards, HeldAsFiled}
 use Rattle.book_rules.proofs.Parts.{part-put, part-apart, word-before}
 use Rattle.book_rules.proofs.Calls.{named, standing-uses, variation-uses, length-offer, judge-standing}
@@ -84,7 +82,7 @@ module _ (w : List ℤ) (b : List ℕ) (accepted : is-accepted w b ≡ true) whe
       let n = named (facilities-in w) (services-in w) b (passed .taken) in
       let y = standing-uses b e in
       let k = toNat (period-word b) in
-      let slot = standing-accepted (book-view w) f s (period-word b) o (sym (judge-standing (book-view w) b e) ∙ passed .judged) in
+      let slot = standing-accepted (book-view w) f s (period-word b) (reason-of b) o (sym (judge-standing (book-view w) b e) ∙ passed .judged) in
       let c = cell standing-stamp (accepted-at (now-in w) o) in
       let wide = length-cell standing-stamp (accepted-at (now-in w) o) (length-offer b) in
       ap (λ (v : List ℤ). held standing-stamp (cell-in v f s standing-half k)) (passed .left ∙ accept-standing w b e)
@@ -147,5 +145,5 @@ stands-afterwards w b usable taken call =
     let p = toNat (period-word b) in
     let stands = stands-once-written w (facility-of b) (service-of b) p (offer-in b) (room-in w usable) (n .facility-in (y .0)) (n .service-in (y .1)) (length-offer b) in
     rw call
-    (ap (λ (new : List Pair). gate-refuses (book-view w .now) (grounds (book-view w) (facility-of b)) (service-of b) p (reason-of b) (pairs-of (force-for w b)) new)
+    (ap (own-gate (book-view w) b p (pairs-of (force-for w b)))
     (sym stands ∙ ap (λ (v : List ℤ). pairs-of (force-for v b)) (sym (accept-variation w b call))))

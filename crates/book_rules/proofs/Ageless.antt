@@ -10,6 +10,7 @@ use lib.ListN.{drop}
 use Rattle.offer_rules.specs.Numbers.{toNat}
 use Rattle.offer_rules.specs.Time.{slot-of}
 use Rattle.offer_rules.specs.Offer.{Pair, Held, sum-of}
+use Rattle.offer_rules.specs.Gate.{Grounds}
 use Rattle.book_rules.specs.Record.{call-of, facility-of, service-of, period-word}
 use Rattle.book_rules.specs.Force.{View, first-of, in-force, will-stand, pairs-of, counted, count-in-force, sum-in-force, Answer, plain, shown-at, found-words, found, totalled}
 use Rattle.book_rules.specs.Refusals.{revision-number, force-number, grounds, admitted-standing, admitted-variation, standing-number, variation-number, look-up-number, judge, look-up-reply, total-reply, reply}
@@ -41,17 +42,17 @@ words-first now (some h) s = refl
 words-first now none (some h) = refl
 words-first now none none = refl
 
-revision-less : (now k : ℕ) (x : Option Held) (o : List ℤ) → revision-number now k (minute-less x) o ≡ revision-number now k x o
+revision-less : (now : ℕ) (g : Grounds) (s k reason : ℕ) (x : Option Held) (o : List ℤ) → revision-number now g s k reason (minute-less x) o ≡ revision-number now g s k reason x o
 unfolding minute-less revision-number
-revision-less now k none o = refl
-revision-less now k (some h) o = refl
+revision-less now g s k reason none o = refl
+revision-less now g s k reason (some h) o = refl
 
 module _ (vw : View) where
   -- ---- numbers
 
-  standing-less : (f s : ℕ) (k : ℤ) (o : List ℤ) → standing-number (ageless vw) f s k o ≡ standing-number vw f s k o
-  unfolding standing-number admitted-standing
-  standing-less f s k o = rw (revision-less (vw .now) (toNat k) (vw .standing f s (toNat k)) o)
+  standing-less : (f s : ℕ) (k : ℤ) (reason : ℕ) (o : List ℤ) → standing-number (ageless vw) f s k reason o ≡ standing-number vw f s k reason o
+  unfolding standing-number admitted-standing grounds
+  standing-less f s k reason o = rw revision-less
 
   variation-less : (f s : ℕ) (p : ℤ) (reason : ℕ) (o : List ℤ) → variation-number (ageless vw) f s p reason o ≡ variation-number vw f s p reason o
   unfolding variation-number admitted-variation in-force will-stand grounds

@@ -10,7 +10,7 @@ use borrow.Author.Tests.{lt-ltb, le-leb, lt-leb, ne-eqb}
 use Rattle.offer_rules.specs.Numbers.{eqZ, between, beyond}
 use Rattle.offer_rules.specs.Kinds.{Kind, kind-row, is-in, is-kind, admits}
 use Rattle.offer_rules.specs.Offer.{kind-of, is-energy, is-reserve, max-proportion, proportion, proportion-refused}
-use Rattle.offer_rules.specs.Gate.{covers, reason-met, reason-holds}
+use Rattle.offer_rules.specs.Gate.{covers, admits-service, period-covered, total-moved, reason-holds}
 use Rattle.offer_rules.proofs.Drawn.{and-false, and-true, or-false, or-true}
 use Rattle.offer_rules.proofs.KindRows.{each-kind}
 use Rattle.book_rules.specs.Refusals.{has-kind, kind-refused, any-mark-astray, marks-refused}
@@ -80,15 +80,30 @@ whom reason t generation load link other =
     each-kind (λ z. admits z reason ≡ t z) generation load link
     (λ z none a b c. ap (λ (k : Kind). is-in (k .reasons) reason) none ∙ sym (other z none a b))
 
+-- A reason that asks nothing of the service, and one that does.
+asks-kind : (k c m : Bool) → ((k && true) && (c && m)) ≡ (k && (c && m))
+asks-kind true c m = refl
+asks-kind false c m = refl
+
+asks-service : (k s c m : Bool) → ((k && s) && (c && m)) ≡ (k && ((s && c) && m))
+asks-service true true c m = refl
+asks-service true false c m = refl
+asks-service false s c m = refl
+
 pub reasons : Reasons
-unfolding Reasons reason-holds reason-met kind-row
+unfolding Reasons reason-holds admits-service period-covered total-moved kind-row
 reasons g s p old new =
     let z = g .kind in
     let unknown : (z : ℤ) → kind-row z ≡ kind-row (pos 0) → is-kind z ≡ false = λ z none. ap (λ (k : Kind). k .known) none in (
-      and-true (admits z 1) ∙ whom 1 is-generation refl refl refl (λ z none a b. a) z,
-      ap (λ (t : Bool). t && covers (g .outage) p) (whom 2 is-generation refl refl refl (λ z none a b. a) z),
-      ap (λ (t : Bool). t && ((is-energy s && covers (g .surplus) p) && ltb new old)) (whom 3 is-kind refl refl refl (λ z none a b. unknown z none) z),
-      ap (λ (t : Bool). t && (covers (g .shortfall) p && ltb old new)) (whom 4 is-kind refl refl refl (λ z none a b. unknown z none) z),
-      ap (λ (t : Bool). t && (covers (g .status) p && ltb old new)) (whom 5 is-kind refl refl refl (λ z none a b. unknown z none) z),
-      ap (λ (t : Bool). t && covers (g .outage) p) (whom 6 is-load refl refl refl (λ z none a b. b) z),
+      asks-kind (admits z 0) true true ∙ ap (λ (t : Bool). t && true) (whom 0 (λ z. false) refl refl refl (λ z none a b. refl) z),
+      asks-kind (admits z 1) true true ∙ and-true (admits z 1) ∙ whom 1 is-generation refl refl refl (λ z none a b. a) z,
+      asks-kind (admits z 2) (covers (g .outage) p) true
+          ∙ ap₂ _&&_ (whom 2 is-generation refl refl refl (λ z none a b. a) z) (and-true (covers (g .outage) p)),
+      asks-service (admits z 3) (is-energy s) (covers (g .surplus) p) (ltb new old)
+          ∙ ap (λ (t : Bool). t && ((is-energy s && covers (g .surplus) p) && ltb new old)) (whom 3 is-kind refl refl refl (λ z none a b. unknown z none) z),
+      asks-kind (admits z 4) (covers (g .shortfall) p) (ltb old new)
+          ∙ ap (λ (t : Bool). t && (covers (g .shortfall) p && ltb old new)) (whom 4 is-kind refl refl refl (λ z none a b. unknown z none) z),
+      asks-kind (admits z 5) (covers (g .status) p) (ltb old new)
+          ∙ ap (λ (t : Bool). t && (covers (g .status) p && ltb old new)) (whom 5 is-kind refl refl refl (λ z none a b. unknown z none) z),
+      asks-kind (admits z 6) (covers (g .outage) p) true ∙ ap₂ _&&_ (whom 6 is-load refl refl refl (λ z none a b. b) z) (and-true (covers (g .outage) p)),
     )

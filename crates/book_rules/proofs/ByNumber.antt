@@ -10,17 +10,19 @@ use lib.Dec.{eqb}
 use lib.IntN.{ℤ}
 use lib.ListN.{getD}
 use borrow.Author.Tests.{eqb-true, eqb-false, eq-eqb, ne-eqb}
-use Rattle.offer_rules.specs.Numbers.{draw, _then_}
-use Rattle.offer_rules.specs.Offer.{Held, offer-number}
-use Rattle.offer_rules.specs.Gate.{standing-gate-refuses}
+use Rattle.offer_rules.specs.Numbers.{toNat, draw, _then_}
+use Rattle.offer_rules.specs.Time.{next-period}
+use Rattle.offer_rules.specs.Offer.{pairs, Held, offer-number}
+use Rattle.offer_rules.specs.Gate.{Grounds, gate-refuses}
+use Rattle.offer_rules.proofs.Periods.{next-is-one}
 use Rattle.offer_rules.proofs.Drawn.{or-false, then-eq, then-zero, draw-zero, then-assoc}
-use Rattle.book_rules.specs.Record.{is-record, outside, has-stray, record-number}
+use Rattle.book_rules.specs.Record.{period-word, offer-in, is-record, outside, has-stray, record-number}
 use Rattle.book_rules.specs.Words.{is-book}
 use Rattle.book_rules.specs.Force.{View, Answer, plain}
 use Rattle.book_rules.specs.Refusals.{judge, reply, clock-number, capability-number, facility-number, registration-number, admission-number, admitted-standing, admitted-variation, over-held, revision-number, gate-number, outage-number, notice-number, withdrawal-number, period-number, force-number, standing-number, variation-number, look-up-number, equal-words, number, answer, after}
 use Rattle.book_rules.specs.Book.{book-view, book-accept, book-answer, book-after}
-use Rattle.book_rules.specs.ByNumber.{of-held, conditions-from-5, conditions, applies}
-use Rattle.book_rules.specs.Claims.{RefusedChangesNothing, AcceptedExactly, LowestThatApplies}
+use Rattle.book_rules.specs.ByNumber.{of-held, own-gate, conditions-from-5, conditions, applies}
+use Rattle.book_rules.specs.Claims.{RefusedChangesNothing, AcceptedExactly, LowestThatApplies, RevisedAtNextPeriod}
 use Rattle.book_rules.proofs.Calls.{Which, is-clock, is-capability, is-standing, is-variation, is-outage, is-notice, is-withdrawal, is-look-up, is-total, named, judge-clock, judge-capability, judge-standing, judge-variation, judge-outage, judge-notice, judge-withdrawal, judge-look-up, judge-total}
 use Rattle.book_rules.proofs.Striking.{reply-number}
 
@@ -45,11 +47,12 @@ last-drawn n = go (eqb n 0) refl
 
 -- ---- each call
 
-held-numbers : (now k : ℕ) (held : Option Held) (o : List ℤ)
-    → revision-number now k held o ≡ (draw (of-held (λ _. standing-gate-refuses now k) held) 17 then draw (of-held (λ h. equal-words (h .offer) o) held) 18)
-unfolding over-held revision-number of-held draw
-held-numbers now k none o = sym (skip 17 (draw false 18))
-held-numbers now k (some h) o = refl
+held-numbers : (now : ℕ) (g : Grounds) (s k reason : ℕ) (held : Option Held) (o : List ℤ)
+    → revision-number now g s k reason held o
+    ≡ (draw (of-held (λ h. gate-refuses now g s (next-period now k) reason (pairs (h .offer)) (pairs o)) held) 17 then draw (of-held (λ h. equal-words (h .offer) o) held) 18)
+unfolding gate-number over-held revision-number of-held draw
+held-numbers now g s k reason none o = sym (skip 17 (draw false 18))
+held-numbers now g s k reason (some h) o = refl
 
 module _ (vw : View) (b : List ℕ) where
   call-lowest : Which b → judge vw b ≡ lowest 5 (conditions-from-5 vw b)
@@ -205,3 +208,13 @@ lowest-that-applies w b e = go (book-answer w b .number) refl
         below : ((i : ℕ) → i < n → getD (conditions w b) i false ≡ false) → (i : ℕ) → i < suc n → applies w b i ≡ false
         below f zero x = unfold applies in refl
         below f (suc i) x = unfold applies in f i (omega arith)
+
+pub revised-at-next-period : RevisedAtNextPeriod
+unfolding RevisedAtNextPeriod applies conditions conditions-from-5 of-held
+revised-at-next-period w b call = (
+  λ h p held next.
+      let now = book-view w .now in
+      let gate-at : ℕ → Bool = λ q. own-gate (book-view w) b q (pairs (h .offer)) (pairs (offer-in b)) in
+      rw (call, held) (or-false (gate-at (next-period now (toNat (period-word b)))) ∙ ap gate-at (sym (next-is-one now (toNat (period-word b)) p next))),
+  λ held. rw (call, held),
+)

@@ -81,7 +81,7 @@ module _ (vw : View) (b : List ℕ) where
   unfolding judge
   judge-capability e = rw e
 
-  pub judge-standing : call-of b ≡ 3 → judge vw b ≡ standing-number vw (facility-of b) (service-of b) (period-word b) (offer-in b)
+  pub judge-standing : call-of b ≡ 3 → judge vw b ≡ standing-number vw (facility-of b) (service-of b) (period-word b) (reason-of b) (offer-in b)
   unfolding judge
   judge-standing e = rw e
 

@@ -1,5 +1,5 @@
 -- What refusal 4 leaves of an offer, and a cell written and read back: 4 and 14 leave no ramps that word 2 doesn't give back.
-use mathlib.Core.Path.{_≡_, refl, sym, _∙_, ap, ap₂}
+use mathlib.Core.Path.{_≡_, refl, sym, _∙_, ap}
 use mathlib.Core.Bool.{Bool, true, false, cond, not, _&&_, true≢false}
 use mathlib.Core.List.{List, [], _∷_}
 use mathlib.Core.Option.{none, some}
@@ -37,23 +37,21 @@ unused-zero f i (x ∷ l) e (suc k) u =
 
 -- "An offer for service 0 uses both ramps and ten pairs": no other uses more than five, nor a ramp.
 module _ (b : List ℕ) (none-stray : has-stray b ≡ false) (call : (call-of b ≡ 3) ⊎ (call-of b ≡ 4)) (other : service-of b ≢ 0) where
-  unused : (i : ℕ) → 16 ≤ i → between 32 71 i ≡ false → used-by-offer (service-of b) i ≡ false
+  unused-by-offer : (i : ℕ) → 16 ≤ i → between 32 71 i ≡ false → used-by-offer (service-of b) i ≡ false
   unfolding used-by-offer
-  unused i h e = rw (ne-eqb (service-of b) 0 other, lt-leb i 15 (omega arith), and-false (leb 14 i), and-false (ltb (service-of b) 4), e)
+  unused-by-offer i h e = rw (ne-eqb (service-of b) 0 other, lt-leb i 15 (omega arith), and-false (leb 14 i), and-false (ltb (service-of b) 4), e)
+
+  unused : (i : ℕ) → 16 ≤ i → between 32 71 i ≡ false → (call-of b ≡ 3) ⊎ (call-of b ≡ 4) → used (call-of b) (service-of b) i ≡ false
+  unfolding used
+  unused i h f (inl e) = rw (e, lt-leb i 12 (omega arith), unused-by-offer i h f) (or-false (leb 6 i && false) ∙ and-false (leb 6 i))
+  unused i h f (inr e) = rw (e, lt-leb i 12 (omega arith), unused-by-offer i h f) (or-false (leb 6 i && false) ∙ and-false (leb 6 i))
 
   byte-zero : (i : ℕ) → 16 ≤ i → between 32 71 i ≡ false → byte b i ≡ 0
   unfolding has-stray
-  byte-zero i h f = go call
-    where
-      at : (k : ℕ) → used k (service-of b) i ≡ false → call-of b ≡ k → byte b i ≡ 0
-      at k u e =
-          let j : 6 + (i - 6) ≡ i = omega arith in
-          sym (getD-drop 6 b (i - 6) 0 ∙ ap (byte b) j)
-          ∙ unused-zero (used (call-of b) (service-of b)) 6 (drop 6 b) none-stray (i - 6) (ap₂ (λ (m n : ℕ). used m (service-of b) n) e j ∙ u)
-
-      go : (call-of b ≡ 3) ⊎ (call-of b ≡ 4) → byte b i ≡ 0
-      go (inl e) = at 3 (unfold used in rw (lt-leb i 11 (omega arith), unused i h f) (or-false (leb 6 i && false) ∙ and-false (leb 6 i))) e
-      go (inr e) = at 4 (unfold used in rw (lt-leb i 12 (omega arith), unused i h f) (or-false (leb 6 i && false) ∙ and-false (leb 6 i))) e
+  byte-zero i h f =
+      let j : 6 + (i - 6) ≡ i = omega arith in
+      sym (getD-drop 6 b (i - 6) 0 ∙ ap (byte b) j)
+      ∙ unused-zero (used (call-of b) (service-of b)) 6 (drop 6 b) none-stray (i - 6) (ap (used (call-of b) (service-of b)) j ∙ unused i h f call)
 
   word-zero : (i : ℕ) → 16 ≤ i → ((j : ℕ) → j < 4 → between 32 71 (i + j) ≡ false) → word-at b i ≡ pos 0
   unfolding word-at signed

@@ -3,14 +3,13 @@ use mathlib.Core.Path.{_≡_, refl, sym, _∙_, ap, ap₂}
 use mathlib.Core.Logic.{inl, inr}
 use mathlib.Core.Bool.{Bool, true, false}
 use mathlib.Core.List.{List}
-use mathlib.Core.Option.{Option}
 use Prim.Native.Nat.{ℕ, zero, suc, _+_, _≤_, _<_}
 use native.Mathlib.Omega.{arith}
 use lib.Dec.{eqb}
 use lib.IntN.{ℤ, pos, _+ℤ_}
 use Rattle.offer_rules.specs.Numbers.{toNat, _then_}
 use Rattle.offer_rules.specs.Time.{slots, slot-of, start-of, horizon-end, slot-refused, period-refused}
-use Rattle.offer_rules.specs.Offer.{Held, offer-number, kind-of}
+use Rattle.offer_rules.specs.Offer.{offer-number, kind-of}
 use Rattle.offer_rules.proofs.Drawn.{then-eq, then-zero, draw-zero}
 use Rattle.offer_rules.proofs.Periods.{slot-is, period-is}
 use Rattle.book_rules.specs.Record.{call-of, facility-of, service-of, period-word, reason-of, word-A, word-B, capability-in, offer-in, uses, has-stray}
@@ -31,9 +30,9 @@ pub period-passed : (now : ℕ) (p : ℤ) → period-number now p ≡ 0 → (p �
 unfolding period-number
 period-passed now p e = period-is now p (draw-zero (period-refused now p) 10 (omega arith) e)
 
-pub standing-accepted : (vw : View) (f s : ℕ) (k : ℤ) (o : List ℤ) → standing-number vw f s k o ≡ 0 → (k ≡ pos (toNat k)) × (toNat k < slots)
+pub standing-accepted : (vw : View) (f s : ℕ) (k : ℤ) (reason : ℕ) (o : List ℤ) → standing-number vw f s k reason o ≡ 0 → (k ≡ pos (toNat k)) × (toNat k < slots)
 unfolding standing-number
-standing-accepted vw f s k o e = slot-is k (admitted (vw .capability f) s (slot-refused k) (then-zero _ _ e .0))
+standing-accepted vw f s k reason o e = slot-is k (admitted (vw .capability f) s (slot-refused k) (then-zero _ _ e .0))
 
 pub variation-accepted : (vw : View) (f s : ℕ) (p : ℤ) (reason : ℕ) (o : List ℤ) → variation-number vw f s p reason o ≡ 0
     → (p ≡ pos (toNat p)) × (vw .now < start-of (toNat p)) × (toNat p < horizon-end (vw .now))
@@ -42,9 +41,9 @@ variation-accepted vw f s p reason o e = period-is (vw .now) p (admitted (vw .ca
 
 -- An offer that is accepted has ramps that a cell gives back.
 module _ (vw : View) (b : List ℕ) (none-stray : has-stray b ≡ false) where
-  pub admitted-standing-fits : (k : ℕ) → call-of b ≡ 3 → admitted-standing vw (facility-of b) (service-of b) k (offer-in b) ≡ 0 → ramps-fit (offer-in b) ≡ true
+  pub admitted-standing-fits : (k : ℕ) → call-of b ≡ 3 → admitted-standing vw (facility-of b) (service-of b) k (reason-of b) (offer-in b) ≡ 0 → ramps-fit (offer-in b) ≡ true
   unfolding admitted-standing
-  admitted-standing-fits k e z = offer-fits _ _ 0 b none-stray (inl e) (then-zero _ _ z .0)
+  admitted-standing-fits k e z = offer-fits _ _ (reason-of b) b none-stray (inl e) (then-zero _ _ z .0)
 
   pub standing-fits : call-of b ≡ 3 → judge vw b ≡ 0 → ramps-fit (offer-in b) ≡ true
   unfolding standing-number
@@ -88,14 +87,15 @@ module _ (F S : ℕ) (Q : ℕ → Type 0) where
       status = r .notice-same 5 (omega arith) (omega arith) i;
     }
 
-    standing-number-same : (f s : ℕ) (k : ℤ) (o : List ℤ) → Q f → f < F → s < S → standing-number u f s k o ≡ standing-number v f s k o
+    standing-number-same : (f s : ℕ) (k : ℤ) (reason : ℕ) (o : List ℤ) → Q f → f < F → s < S
+        → standing-number u f s k reason o ≡ standing-number v f s k reason o
     unfolding standing-number admitted-standing
-    standing-number-same f s k o q hf hs =
+    standing-number-same f s k reason o q hf hs =
         let c = r .capability-same f q hf in
         then-eq _ _ _ _ (ap (λ (x : List ℤ). admission-number x s (slot-refused k)) c) λ e.
-        then-eq _ _ _ _ (ap₂ (λ (l x : List ℤ). offer-number l x s 0 o) (r .limits-same) c) λ _.
-        ap₂ (λ (n : ℕ) (held : Option Held). revision-number n (toNat k) held o) (r .now-same)
-        (r .standing-same f s (toNat k) q hf hs (slot-is k (admitted (u .capability f) s (slot-refused k) e) .1))
+        then-eq _ _ _ _ (ap₂ (λ (l x : List ℤ). offer-number l x s reason o) (r .limits-same) c) λ _.
+        let held = r .standing-same f s (toNat k) q hf hs (slot-is k (admitted (u .capability f) s (slot-refused k) e) .1) in
+        λ i. revision-number (r .now-same i) (grounds-same f q hf i) s (toNat k) reason (held i) o
 
     variation-number-same : (f s : ℕ) (p : ℤ) (reason : ℕ) (o : List ℤ) → Q f → f < F → s < S
         → variation-number u f s p reason o ≡ variation-number v f s p reason o
@@ -127,7 +127,7 @@ module _ (F S : ℕ) (Q : ℕ → Type 0) where
         go (is-standing e) =
             let y = standing-uses b e in
             judge-standing u b e
-            ∙ standing-number-same (facility-of b) (service-of b) (period-word b) (offer-in b) (q (y .0)) (n .facility-in (y .0)) (n .service-in (y .1))
+            ∙ standing-number-same (facility-of b) (service-of b) (period-word b) (reason-of b) (offer-in b) (q (y .0)) (n .facility-in (y .0)) (n .service-in (y .1))
             ∙ sym (judge-standing v b e)
         go (is-variation e) =
             let y = variation-uses b e in

@@ -306,7 +306,7 @@ module _ (F S : ℕ) (limits : List ℤ) where
       go (is-capability k) = file (capabilityK (facility-of b)) (capability-in b) (capability-files b now k) (n .facility-in (capability-uses b k)) tt refl tt
       go (is-standing k) =
           let y = standing-uses b k in
-          let s = standing-accepted (book-view w) (facility-of b) (service-of b) (period-word b) (offer-in b) (sym (judge-standing (book-view w) b k) ∙ e) in
+          let s = standing-accepted (book-view w) (facility-of b) (service-of b) (period-word b) (reason-of b) (offer-in b) (sym (judge-standing (book-view w) b k) ∙ e) in
           let x = standing-files b (toNat (period-word b)) (s .0) now (standing-fits (book-view w) b (n .none-stray) k e) k in
           file (standingK (facility-of b) (service-of b) (toNat (period-word b))) (cell standing-stamp (accepted-at now (offer-in b))) x
           (n .facility-in (y .0), n .service-in (y .1), s .1) tt refl tt

@@ -52,7 +52,7 @@ unfolding used
 filed now vw b t (is-clock e) z = for-nobody clockK _ (clock-files b now e) refl (filing 1 b e false refl) (rw e)
 filed now vw b t (is-capability e) z = for-facility (capabilityK (facility-of b)) _ (capability-files b now e) refl (filing 2 b e true refl)
 filed now vw b t (is-standing e) z =
-    let k = standing-accepted vw (facility-of b) (service-of b) (period-word b) (offer-in b) (sym (judge-standing vw b e) ∙ z) in
+    let k = standing-accepted vw (facility-of b) (service-of b) (period-word b) (reason-of b) (offer-in b) (sym (judge-standing vw b e) ∙ z) in
     for-facility (standingK (facility-of b) (service-of b) (toNat (period-word b))) _ (standing-files b (toNat (period-word b)) (k .0) now (standing-fits vw b t e z) e) refl (filing 3 b e true refl)
 filed now vw b t (is-variation e) z =
     let p = variation-accepted vw (facility-of b) (service-of b) (period-word b) (reason-of b) (offer-in b) (sym (judge-variation vw b e) ∙ z) in

@@ -2,7 +2,7 @@
 -- For every words of a capability, damaged ones included; 7, the marks of 8, and 9 of words that have a kind: where they have none, 5, or in call 2
 -- the kind's own 8, is drawn in any case. Claims; their proofs are in proofs/ByKind.
 use mathlib.Core.Path.{_≡_}
-use mathlib.Core.Bool.{Bool, true, cond, not, _&&_, _||_}
+use mathlib.Core.Bool.{Bool, true, false, cond, not, _&&_, _||_}
 use mathlib.Core.List.{List}
 use Prim.Native.Nat.{ℕ, _≤_}
 use lib.Dec.{ltb}
@@ -58,10 +58,11 @@ unfoldable pub Proportions : Type 0
 Proportions = (c : List ℤ) (s : ℕ) (o : List ℤ)
     → proportion-refused c s o ≡ ((is-generation (kind-of c) && is-reserve s) && (eqZ (proportion o) (pos 0) || ltZ (max-proportion c s) (proportion o)))
 
--- 17, the list of reasons in "Gate"; "Reasons 3, 4 and 5 are open to [a link]; 1, 2 and 6 are not." A word that is no kind is admitted by none.
+-- 17, "it needs a reason", and the list of reasons in "Gate"; "Reasons 3, 4 and 5 are open to [a link]; 1, 2 and 6 are not." A word that is no kind is admitted by none.
 unfoldable pub Reasons : Type 0
 Reasons = (g : Grounds) (s p old new : ℕ)
-    → (reason-holds g s p old new 1 ≡ is-generation (g .kind))
+    → (reason-holds g s p old new 0 ≡ false)
+    × (reason-holds g s p old new 1 ≡ is-generation (g .kind))
     × (reason-holds g s p old new 2 ≡ (is-generation (g .kind) && covers (g .outage) p))
     × (reason-holds g s p old new 3 ≡ (is-kind (g .kind) && ((is-energy s && covers (g .surplus) p) && ltb new old)))
     × (reason-holds g s p old new 4 ≡ (is-kind (g .kind) && (covers (g .shortfall) p && ltb old new)))

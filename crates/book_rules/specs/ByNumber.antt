@@ -1,6 +1,6 @@
 -- Document 01, "Who draws which number", number by number: the condition of each, on the calls that it names.
 -- Demand 2 speaks of this list; the order in which a call is tested is in Refusals.
-use mathlib.Core.Bool.{Bool, false, cond, not, _&&_, _||_}
+use mathlib.Core.Bool.{Bool, false, not, _&&_, _||_}
 use mathlib.Core.List.{List, [], _∷_}
 use mathlib.Core.Option.{Option, none, some}
 use Prim.Native.Nat.{ℕ, zero, suc}
@@ -8,9 +8,9 @@ use lib.Dec.{eqb}
 use lib.IntN.{ℤ}
 use lib.ListN.{getD}
 use Rattle.offer_rules.specs.Numbers.{toNat}
-use Rattle.offer_rules.specs.Time.{slot-refused, period-refused}
+use Rattle.offer_rules.specs.Time.{next-period, slot-refused, period-refused}
 use Rattle.offer_rules.specs.Offer.{Pair, pairs, Held, sum-of, any-pair, out-of-range, is-priced-blank, non-blank-prices, rises, ramp-refused, proportion-refused, above-capacity}
-use Rattle.offer_rules.specs.Gate.{gate-refuses, standing-gate-refuses}
+use Rattle.offer_rules.specs.Gate.{gate-refuses}
 use Rattle.book_rules.specs.Record.{call-of, facility-of, service-of, period-word, reason-of, word-A, word-B, capability-in, offer-in, is-record, outside, has-stray}
 use Rattle.book_rules.specs.Words.{is-book}
 use Rattle.book_rules.specs.Force.{View, InForce, in-force, will-stand, pairs-of, counted}
@@ -32,10 +32,6 @@ module _ (vw : View) (b : List ℕ) where
   abbrev pub own-capability : List ℤ
   own-capability = vw .capability (facility-of b)
 
-  -- Call 3 carries no reason.
-  abbrev pub own-reason : ℕ
-  own-reason = cond (is-call 4 b) (reason-of b) 0
-
   abbrev pub own-pairs : List Pair
   own-pairs = pairs (offer-in b)
 
@@ -48,6 +44,10 @@ module _ (vw : View) (b : List ℕ) where
 
   abbrev pub own-held : Option Held
   own-held = vw .standing (facility-of b) (service-of b) (toNat (period-word b))
+
+  -- The one gate, of a period, old and new.
+  abbrev pub own-gate : ℕ → List Pair → List Pair → Bool
+  own-gate p old new = gate-refuses (vw .now) (grounds vw (facility-of b)) (service-of b) p (reason-of b) old new
 
   -- 5 to 19.
   unfoldable pub conditions-from-5 : List Bool
@@ -66,15 +66,15 @@ module _ (vw : View) (b : List ℕ) where
       -- 10 "slot outside 0–335; P begun .. or P ≥ 48·(d + 7) .. Also calls 8 and 9, for P."
       ∷ (((is-call 3 b && slot-refused (period-word b)) || (((is-call 4 b || is-call 8 b) || is-call 9 b) && period-refused (vw .now) (period-word b)))
       -- 11 to 16 of an offer
-      ∷ ((is-offer b && out-of-range (vw .limits) (service-of b) own-reason (offer-in b))
+      ∷ ((is-offer b && out-of-range (vw .limits) (service-of b) (reason-of b) (offer-in b))
       ∷ ((is-offer b && any-pair is-priced-blank own-pairs)
       ∷ ((is-offer b && not (rises (non-blank-prices own-pairs)))
       ∷ ((is-offer b && ramp-refused own-capability (service-of b) (offer-in b))
       ∷ ((is-offer b && proportion-refused own-capability (service-of b) (offer-in b))
       ∷ ((is-offer b && above-capacity own-capability (service-of b) (sum-of own-pairs))
-      -- 17 "gate"
-      ∷ (((is-call 3 b && of-held (λ _. standing-gate-refuses (vw .now) (toNat (period-word b))) own-held)
-      || (is-call 4 b && gate-refuses (vw .now) (grounds vw (facility-of b)) (service-of b) (toNat (period-word b)) (reason-of b) (pairs-of own-force) (pairs-of own-afterwards)))
+      -- 17 "gate", of a standing offer over a held one and of a variation
+      ∷ (((is-call 3 b && of-held (λ h. own-gate (next-period (vw .now) (toNat (period-word b))) (pairs (h .offer)) own-pairs) own-held)
+      || (is-call 4 b && own-gate (toNat (period-word b)) (pairs-of own-force) (pairs-of own-afterwards)))
       -- 18 "standing offer equal to the held one", whatever its minute
       ∷ ((is-call 3 b && of-held (λ h. equal-words (h .offer) (offer-in b)) own-held)
       -- 19 "nothing in force (call 8)"

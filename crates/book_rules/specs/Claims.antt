@@ -9,14 +9,14 @@ use lib.Dec.{eqb}
 use lib.IntN.{ℤ, pos}
 use lib.ListN.{length, drop}
 use Rattle.offer_rules.specs.Numbers.{toNat, between}
+use Rattle.offer_rules.specs.Time.{IsNext}
 use Rattle.offer_rules.specs.Offer.{pairs, Held, all-blank}
-use Rattle.offer_rules.specs.Gate.{gate-refuses}
-use Rattle.book_rules.specs.Record.{call-of, facility-of, service-of, period-word, reason-of, offer-in, record-number}
+use Rattle.book_rules.specs.Record.{call-of, facility-of, service-of, period-word, offer-in, record-number}
 use Rattle.book_rules.specs.Words.{is-book, opening-number, opening-words}
 use Rattle.book_rules.specs.Force.{View, InForce, in-force, pairs-of, Answer, plain}
-use Rattle.book_rules.specs.Refusals.{grounds, judge, reply}
+use Rattle.book_rules.specs.Refusals.{judge, reply}
 use Rattle.book_rules.specs.Book.{facilities-in, services-in, now-in, book-view, book-accept, book-answer, book-after, book-answers, book-run}
-use Rattle.book_rules.specs.ByNumber.{applies}
+use Rattle.book_rules.specs.ByNumber.{own-held, own-gate, applies}
 use Rattle.book_rules.specs.ListMachine.{list-answers}
 
 -- Number 0.
@@ -48,9 +48,15 @@ force-for w b = in-force (book-view w) (facility-of b) (service-of b) (toNat (pe
 -- the gate's, old being the offer in force before the call and new the one in force in the words that it leaves once it is filed.
 unfoldable pub StandsAfterwards : Type 0
 StandsAfterwards = (w : List ℤ) (b : List ℕ) → is-book w ≡ true → record-number b (facilities-in w) (services-in w) ≡ 0 → call-of b ≡ 4
-    → applies w b 17
-    ≡ gate-refuses (book-view w .now) (grounds (book-view w) (facility-of b)) (service-of b) (toNat (period-word b)) (reason-of b)
-    (pairs-of (force-for w b)) (pairs-of (force-for (book-accept w b) b))
+    → applies w b 17 ≡ own-gate (book-view w) b (toNat (period-word b)) (pairs-of (force-for w b)) (pairs-of (force-for (book-accept w b) b))
+
+-- "P is the slot's next period not yet begun; old is the held standing offer, new the one filed" (document 02): on every words and every standing offer for a slot 0 to 335,
+-- the condition of 17 is the same gate's at the one period p that is the slot's next, whatever variation is in force for p. "A first one always passes the gate."
+unfoldable pub RevisedAtNextPeriod : Type 0
+RevisedAtNextPeriod = (w : List ℤ) (b : List ℕ) → call-of b ≡ 3
+    → ((h : Held) (p : ℕ) → own-held (book-view w) b ≡ some h → IsNext (book-view w .now) (toNat (period-word b)) p
+    → applies w b 17 ≡ own-gate (book-view w) b p (pairs (h .offer)) (pairs (offer-in b)))
+    × (own-held (book-view w) b ≡ none → applies w b 17 ≡ false)
 
 -- ---- document 02: the minute of acceptance
 

@@ -60,17 +60,17 @@ unfoldable pub used-by-offer : ℕ → ℕ → Bool
 used-by-offer s i =
     cond (eqb s 0) (between 16 23 i || between 32 111 i) ((ltb s 4 && between 14 15 i) || between 32 71 i)
 
+-- "4 variation: the same with P for the slot, and reason"; "Call 3 now uses byte 12 for a reason" (document 02), and so the same as call 4.
 unfoldable pub used : ℕ → ℕ → ℕ → Bool
 used k s i =
     cond (eqb k 1) (between 24 27 i)
     (cond (eqb k 2) (eqb i 6 || between 32 99 i)
-    (cond (eqb k 3) (between 6 11 i || used-by-offer s i)
-    (cond (eqb k 4) (between 6 12 i || used-by-offer s i)
+    (cond (eqb k 3 || eqb k 4) (between 6 12 i || used-by-offer s i)
     (cond (eqb k 5) (eqb i 6 || between 24 31 i)
     (cond (eqb k 6) (eqb i 12 || between 24 31 i)
     (cond (eqb k 7) (eqb i 12)
     (cond (eqb k 8) (between 6 11 i)
-    (cond (eqb k 9) (between 7 11 i) false))))))))
+    (cond (eqb k 9) (between 7 11 i) false)))))))
 
 abbrev pub uses : List ℕ → ℕ → Bool
 uses b i = used (call-of b) (service-of b) i

@@ -8,10 +8,10 @@ use lib.Dec.{eqb}
 use lib.IntN.{ℤ, pos}
 use lib.Signed.{leZ}
 use Rattle.offer_rules.specs.Numbers.{eqZ, toNat, between, beyond, any-beyond, draw, _then_}
-use Rattle.offer_rules.specs.Time.{slot-refused, period-refused}
+use Rattle.offer_rules.specs.Time.{next-period, slot-refused, period-refused}
 use Rattle.offer_rules.specs.Kinds.{kind-row, is-kind, may-offer, may-be-marked}
-use Rattle.offer_rules.specs.Offer.{Pair, Held, kind-of, mark-for, offer-number}
-use Rattle.offer_rules.specs.Gate.{Grounds, gate-refuses, standing-gate-refuses}
+use Rattle.offer_rules.specs.Offer.{Pair, pairs, Held, kind-of, mark-for, offer-number}
+use Rattle.offer_rules.specs.Gate.{Grounds, gate-refuses}
 use Rattle.book_rules.specs.Record.{call-of, facility-of, service-of, period-word, reason-of, word-A, word-B, capability-in, offer-in, record-number}
 use Rattle.book_rules.specs.Force.{View, InForce, in-force, will-stand, pairs-of, counted, count-in-force, sum-in-force, Answer, plain, found, totalled}
 
@@ -83,6 +83,13 @@ registration-refused c s = not (is-registered c s) || not (may-offer (kind-of c)
 unfoldable pub registration-number : List ℤ → ℕ → ℕ
 registration-number c s = draw (registration-refused c s) 9
 
+-- 17
+unfoldable pub grounds : View → ℕ → Grounds
+grounds vw f = record { kind = kind-of (vw .capability f); outage = vw .outage f; surplus = vw .notice 3; shortfall = vw .notice 4; status = vw .notice 5 }
+
+unfoldable pub gate-number : ℕ → Grounds → ℕ → ℕ → ℕ → List Pair → List Pair → ℕ
+gate-number now g s p reason old new = draw (gate-refuses now g s p reason old new) 17
+
 -- 18 "standing offer equal to the held one"; "The duplicate test ignores the minute" (document 02).
 unfoldable pub equal-words : List ℤ → List ℤ → Bool
 equal-words [] [] = true
@@ -90,21 +97,14 @@ equal-words [] (y ∷ m) = false
 equal-words (x ∷ l) [] = false
 equal-words (x ∷ l) (y ∷ m) = eqZ x y && equal-words l m
 
--- 17 and 18 of a standing offer over a held one, the same as it or not
-unfoldable pub over-held : ℕ → ℕ → Bool → ℕ
-over-held now k same = draw (standing-gate-refuses now k) 17 then draw same 18
+-- 17 and 18 of a standing offer over a held one: "P is the slot's next period not yet begun; old is the held standing offer, new the one filed" (document 02).
+unfoldable pub over-held : ℕ → Grounds → ℕ → ℕ → ℕ → List ℤ → List ℤ → ℕ
+over-held now g s k reason old new = gate-number now g s (next-period now k) reason (pairs old) (pairs new) then draw (equal-words old new) 18
 
 -- "A first one always passes the gate."
-unfoldable pub revision-number : ℕ → ℕ → Option Held → List ℤ → ℕ
-revision-number now k none o = 0
-revision-number now k (some h) o = over-held now k (equal-words (h .offer) o)
-
--- 17 of a variation
-unfoldable pub grounds : View → ℕ → Grounds
-grounds vw f = record { kind = kind-of (vw .capability f); outage = vw .outage f; surplus = vw .notice 3; shortfall = vw .notice 4; status = vw .notice 5 }
-
-unfoldable pub gate-number : ℕ → Grounds → ℕ → ℕ → ℕ → List Pair → List Pair → ℕ
-gate-number now g s p reason old new = draw (gate-refuses now g s p reason old new) 17
+unfoldable pub revision-number : ℕ → Grounds → ℕ → ℕ → ℕ → Option Held → List ℤ → ℕ
+revision-number now g s k reason none o = 0
+revision-number now g s k reason (some h) o = over-held now g s k reason (h .offer) o
 
 -- 10 "Also calls 8 and 9, for P."
 unfoldable pub period-number : ℕ → ℤ → ℕ
@@ -120,9 +120,11 @@ force-number x = draw (eqb (counted x) 0) 19
 unfoldable pub admission-number : List ℤ → ℕ → Bool → ℕ
 admission-number c s refused = facility-number c then registration-number c s then draw refused 10
 
--- 11 to 18 of a standing offer that is admitted for slot k. It carries no reason.
-unfoldable pub admitted-standing : View → ℕ → ℕ → ℕ → List ℤ → ℕ
-admitted-standing vw f s k o = offer-number (vw .limits) (vw .capability f) s 0 o then revision-number (vw .now) k (vw .standing f s k) o
+-- 11 to 18 of a standing offer that is admitted for slot k. Of its reason, "refusal 11 covers it" (document 02).
+unfoldable pub admitted-standing : View → ℕ → ℕ → ℕ → ℕ → List ℤ → ℕ
+admitted-standing vw f s k reason o =
+    offer-number (vw .limits) (vw .capability f) s reason o
+    then revision-number (vw .now) (grounds vw f) s k reason (vw .standing f s k) o
 
 -- 11 to 17 of a variation that is admitted for period p. "Old is the offer in force before the call";
 -- "The gate compares old with the offer that will stand afterwards" (document 02).
@@ -131,8 +133,8 @@ admitted-variation vw f s p reason o =
     offer-number (vw .limits) (vw .capability f) s reason o
     then gate-number (vw .now) (grounds vw f) s p reason (pairs-of (in-force vw f s p)) (pairs-of (will-stand vw f s p o))
 
-unfoldable pub standing-number : View → ℕ → ℕ → ℤ → List ℤ → ℕ
-standing-number vw f s k o = admission-number (vw .capability f) s (slot-refused k) then admitted-standing vw f s (toNat k) o
+unfoldable pub standing-number : View → ℕ → ℕ → ℤ → ℕ → List ℤ → ℕ
+standing-number vw f s k reason o = admission-number (vw .capability f) s (slot-refused k) then admitted-standing vw f s (toNat k) reason o
 
 unfoldable pub variation-number : View → ℕ → ℕ → ℤ → ℕ → List ℤ → ℕ
 variation-number vw f s p reason o = admission-number (vw .capability f) s (period-refused (vw .now) p) then admitted-variation vw f s (toNat p) reason o
@@ -148,7 +150,7 @@ unfoldable pub judge : View → List ℕ → ℕ
 judge vw b =
     cond (eqb (call-of b) 1) (clock-number (vw .now) (word-A b))
     (cond (eqb (call-of b) 2) (capability-number (vw .capability (facility-of b)) (capability-in b))
-    (cond (eqb (call-of b) 3) (standing-number vw (facility-of b) (service-of b) (period-word b) (offer-in b))
+    (cond (eqb (call-of b) 3) (standing-number vw (facility-of b) (service-of b) (period-word b) (reason-of b) (offer-in b))
     (cond (eqb (call-of b) 4) (variation-number vw (facility-of b) (service-of b) (period-word b) (reason-of b) (offer-in b))
     (cond (eqb (call-of b) 5) (facility-number (vw .capability (facility-of b)) then outage-number (vw .now) (vw .capability (facility-of b)) (word-A b) (word-B b))
     (cond (eqb (call-of b) 6) (notice-number (reason-of b) (word-A b) (word-B b))

@@ -1,4 +1,5 @@
--- The cases marked (p), and those of a variation taken back, of a link, of a fresh offer and of a slot's next period, as one table with one statement.
+-- The cases marked (p), and those of a variation taken back, of a link, of a fresh offer, of a slot's next period and of a standing offer in an outage, as one table with
+-- one statement.
 use mathlib.Core.Path.{_≡_}
 use mathlib.Core.List.{List, [], _∷_, _++_}
 use Prim.Native.Nat.{ℕ, _+_}
@@ -6,10 +7,11 @@ use lib.IntN.{ℤ, pos, negsuc}
 use lib.ListN.{getD, replicate}
 use Rattle.offer_rules.specs.Numbers.{word, zeros}
 use Rattle.offer_rules.specs.Time.{next-period}
+use Rattle.offer_rules.specs.Offer.{Pair}
 use Rattle.book_rules.specs.Words.{part, put, facility-place, cell-place, standing-half, variation-half, standing-stamp, opening-words}
 use Rattle.book_rules.specs.Force.{Answer}
 use Rattle.book_rules.specs.Book.{book-answer, book-run}
-use Rattle.cases.specs.Records.{_at_, clock, capability-words, energy-mark, capability-of, capability, standing-for, standing, ramping, variation, outage, notice, look-up-for, look-up, total}
+use Rattle.cases.specs.Records.{_at_, clock, capability-words, energy-mark, capability-of, capability, standing-for, standing, with-reason, ramping, variation, outage, notice, look-up-for, look-up, total}
 
 -- "a book of 16,224 words, all zero before opening, F 1, S 1, energy −4,500.00 to 4,500.00, others to 4,500.00"
 abbrev pub limits : List ℤ
@@ -96,6 +98,15 @@ row calls call line = record { book = opened-book; before = calls; last = call; 
 -- A slot's standing offer, and at a minute another over it.
 abbrev revised : ℕ → ℕ → Line → Case
 revised slot minute = row (plant ∷ (standing slot (700 at 4000 ∷ []) ∷ (clock minute ∷ []))) (standing slot (600 at 4000 ∷ []))
+
+-- `stands` is held, then these calls; the gate of slot 4 is shut, and an outage covers period 4: pairs are filed over it with a reason.
+abbrev over-stands : List (List ℕ) → ℕ → List Pair → Line → Case
+over-stands calls reason offer = row ((plant ∷ (stands ∷ calls)) ++ tripped) (with-reason reason (standing 4 offer))
+
+-- `stands` is held and a notice of kind 4 is for one period: at a minute 10.0 MW are added at its last price.
+abbrev added-to-stands : ℕ → ℕ → Line → Case
+added-to-stands period minute =
+    row (plant ∷ (stands ∷ (notice 4 period period ∷ (clock minute ∷ [])))) (with-reason 4 (standing 4 (500 at 4000 ∷ (300 at 5000 ∷ []))))
 
 abbrev pub first-case : Case
 first-case = row (plant ∷ []) (standing 4 (1300 at 4000 ∷ [])) (draws 16)
@@ -192,6 +203,35 @@ cases =
     ∷ revised 0 0 passes
     ∷ revised 335 10049 (draws 17)
     ∷ revised 335 10050 passes
+    -- "Call 3 now uses byte 12 for a reason": slot 4 at minute 56, over a held offer: without one, with 2 in the outage window and prices kept, and where a tenth's differs
+    ∷ over-stands [] 0 (500 at 4000 ∷ []) (draws 17)
+    ∷ over-stands [] 2 (500 at 4000 ∷ []) passes
+    ∷ over-stands [] 2 (450 at 4000 ∷ (250 at 5000 ∷ [])) (draws 17)
+    ∷ row ((plant ∷ (stands ∷ [])) ++ (tripped ++ (with-reason 2 (standing 4 (500 at 4000 ∷ [])) ∷ []))) (look-up 4) (reads 0 3 500)
+    -- "refusal 11 covers it": also of one that the gate would pass
+    ∷ over-stands [] 7 (500 at 4000 ∷ []) (draws 11)
+    ∷ row (plant ∷ []) (with-reason 7 stands) (draws 11)
+    -- "A first one always passes the gate", whatever its reason; so does an open one.
+    ∷ row (plant ∷ (clock 56 ∷ [])) (with-reason 6 stands) passes
+    ∷ row (plant ∷ (stands ∷ (clock 55 ∷ []))) (with-reason 6 (standing 4 (300 at 4500 ∷ []))) passes
+    -- 17 before 18: the held offer again, without a reason and with one that holds
+    ∷ over-stands [] 0 (500 at 4000 ∷ (200 at 5000 ∷ [])) (draws 17)
+    ∷ over-stands [] 2 (500 at 4000 ∷ (200 at 5000 ∷ [])) (draws 18)
+    -- "old is the held standing offer", where a variation at 45.00 is in force
+    ∷ over-stands (variation 4 0 (300 at 4500 ∷ []) ∷ []) 2 (500 at 4000 ∷ []) passes
+    ∷ over-stands (variation 4 0 (300 at 4500 ∷ []) ∷ []) 2 (300 at 4500 ∷ []) (draws 17)
+    -- A blank one has total 0: for an outage, and for a surplus, which asks for a total below the old one.
+    ∷ over-stands [] 2 [] passes
+    ∷ row (plant ∷ (stands ∷ (notice 3 4 4 ∷ (clock 56 ∷ [])))) (with-reason 3 (standing 4 [])) passes
+    ∷ row (plant ∷ (standing 4 [] ∷ (notice 3 4 4 ∷ (clock 56 ∷ [])))) (with-reason 3 (standing 4 (100 at 4000 ∷ []))) (draws 17)
+    -- "P is the slot's next period not yet begun": 4, then 340; slot 0 late on Sunday looks to 336
+    ∷ added-to-stands 4 56 passes
+    ∷ added-to-stands 4 10136 (draws 17)
+    ∷ added-to-stands 340 10136 passes
+    ∷ row (plant ∷ (standing 0 (700 at 4000 ∷ []) ∷ (clock 10020 ∷ (outage 10020 3 ∷ [])))) (with-reason 2 (standing 0 (600 at 4000 ∷ []))) passes
+    -- A link's: 4 is open to it, 1 is not.
+    ∷ row (shut-for link) (with-reason 4 (standing 4 (500 at 4000 ∷ (300 at 5000 ∷ [])))) passes
+    ∷ row (shut-for link) (with-reason 1 (standing 4 (500 at 4000 ∷ (300 at 5000 ∷ [])))) (draws 17)
     ∷ []
 
 -- Every row of the table holds.

@@ -58,6 +58,10 @@ standing-for service slot offer = record-bytes 3 0 service (pos slot) 0 (pos 0) 
 abbrev pub standing : ℕ → List Pair → List ℕ
 standing = standing-for 0
 
+-- A record with this reason.
+abbrev pub with-reason : ℕ → List ℕ → List ℕ
+with-reason reason r = take 12 r ++ (reason ∷ drop 13 r)
+
 -- A record with this ramp-up rate.
 abbrev pub ramping : ℕ → List ℕ → List ℕ
 ramping rate r = take 16 r ++ (word-bytes (pos rate) ++ drop 20 r)

@@ -1,19 +1,18 @@
-// Gate closure, refusal 17: prices compared tenth by tenth, the reasons, and a standing offer's period.
+// Gate closure, refusal 17: prices compared tenth by tenth, and the reasons.
 // Offers are lent as their pairs' words: price, quantity, price, quantity ..
 ghost use mathlib.Core.Path.{_≡_};
 ghost use Prim.Native.Nat.{_+_, _-_, _*_, _≤_, _<_};
+ghost use lib.Dec.{ltb};
 ghost use lib.ListN.{length};
 ghost use Rattle.offer_rules.specs.Numbers.{toNat, eqZ};
 ghost use Rattle.offer_rules.specs.Offer.{pairs-in};
-ghost use Rattle.offer_rules.specs.Gate.{total-tenths, same-prices, covers, is-open, reason-met, reason-holds, gate-refuses, standing-gate-refuses};
+ghost use Rattle.offer_rules.specs.Gate.{total-tenths, same-prices, covers, is-open, admits-service, period-covered, total-moved, reason-holds, gate-refuses};
 ghost use Rattle.gate.specs.Differing.{first-differing};
 ghost use Rattle.gate.specs.Merging.{left-of, alike, differ, merged};
 ghost use Rattle.gate.specs.Meaning.{window-of, grounds-of};
 use kinds::admits;
 use layout::facility;
-use layout::fields;
 use layout::time;
-use periods::bilzhaan_next_period;
 use units::Price;
 use units::Quantity;
 use units::nat;
@@ -85,8 +84,8 @@ fn pairs_differ(a: u64, b: u64, same: bool) -> bool
     ((0 < a) & (0 < b)) & !same
 }
 
-// A step passes the pair with fewer tenths left, a of old's or b of new's, or both where they are as many: a variation that
-// only adds to the old offer is walked through in as many steps as it has pairs.
+// A step passes the pair with fewer tenths left, a of old's or b of new's, or both where they are as many: an offer that
+// only adds to old is walked through in as many steps as it has pairs.
 fn merge_step(s: Merge, a: u64, b: u64) -> Merge
     requires { ⌜ (s .«old_pair» < 9223372036854775808) × (s .«new_pair» < 9223372036854775808) × (s .«old_used» + a < 2147483648) × (s .«new_used» + b < 2147483648) × (s .passed < 9223372036854775808) ⌝ }
     ensures { λ r. ⌜ r ≡ merged s a b ⌝ }
@@ -172,23 +171,52 @@ fn is_covered(window: Window, period: u64) -> bool
     (window.first <= p) & (p <= window.last)
 }
 
-// What a reason asks, with the totals of old and new.
-fn is_reason_met(g: Grounds, service: u8, period: u64, old: u64, new: u64, reason: u8) -> bool
+// "3 service 0"
+fn admits_service(service: u8, reason: u8) -> bool
+    ensures { λ r. ⌜ r ≡ admits-service service reason ⌝ }
+{
+    match reason {
+        3 => service == facility::ENERGY,
+        0..=2 | 4..=255 => true,
+    }
+}
+
+// What a reason asks of the period.
+fn is_period_covered(g: Grounds, period: u64, reason: u8) -> bool
     requires { ⌜ period < 2147483648 ⌝ }
-    ensures { λ r. ⌜ r ≡ reason-met (grounds-of g) service period old new reason ⌝ }
+    ensures { λ r. ⌜ r ≡ period-covered (grounds-of g) period reason ⌝ }
 {
     let outage = is_covered(g.outage, period);
     let surplus = is_covered(g.surplus, period);
     let shortfall = is_covered(g.shortfall, period);
     let status = is_covered(g.status, period);
     match reason {
-        1 => true,
         2 => outage,
-        3 => ((service == facility::ENERGY) & surplus) & (new < old),
-        4 => shortfall & (old < new),
-        5 => status & (old < new),
+        3 => surplus,
+        4 => shortfall,
+        5 => status,
         6 => outage,
-        0 | 7..=255 => false,
+        0 | 1 | 7..=255 => true,
+    }
+}
+
+fn has_less(a: &[i32], b: &[i32]) -> bool
+    requires { ⌜ (length (now a) ≤ 20) × (length (now b) ≤ 20) ⌝ }
+    ensures { λ r. ⌜ r ≡ ltb (total-tenths (pairs-in (now (a .entry)))) (total-tenths (pairs-in (now (b .entry)))) ⌝ }
+{
+    total_tenths(a) < total_tenths(b)
+}
+
+// What it asks of the totals of old and new, which every pair is read for.
+fn is_total_moved(reason: u8, old: &[i32], new: &[i32]) -> bool
+    requires { ⌜ (length (now old) ≤ 20) × (length (now new) ≤ 20) ⌝ }
+    ensures { λ r. ⌜ r ≡ total-moved reason (total-tenths (pairs-in (now (old .entry)))) (total-tenths (pairs-in (now (new .entry)))) ⌝ }
+{
+    match reason {
+        3 => has_less(new, old),
+        4 => has_less(old, new),
+        5 => has_less(old, new),
+        0..=2 | 6..=255 => true,
     }
 }
 
@@ -200,23 +228,21 @@ pub fn is_before_closure(clock: u64, period: u64) -> bool
     clock + time::GATE_CLOSURE_MINUTES <= time::PERIOD_MINUTES * period
 }
 
-// "Inside that it needs a reason". Only reasons 3 to 5 ask for the totals.
+// "Inside that it needs a reason".
 fn is_allowed(g: Grounds, service: u8, period: u64, reason: u8, old: &[i32], new: &[i32]) -> bool
     requires { ⌜ (period < 2147483648) × (length (now old) ≤ 20) × (length (now new) ≤ 20) ⌝ }
     ensures { λ r. ⌜ r ≡ reason-holds (grounds-of g) service period (total-tenths (pairs-in (now (old .entry)))) (total-tenths (pairs-in (now (new .entry)))) reason ⌝ }
 {
-    if !admits(g.kind, reason) {
+    if !(admits(g.kind, reason) & admits_service(service, reason)) {
         return false;
     }
-    if (fields::ENERGY_SURPLUS <= reason) & (reason <= fields::SYSTEM_STATUS) {
-        let before = total_tenths(old);
-        let after = total_tenths(new);
-        return is_reason_met(g, service, period, before, after, reason);
+    if !is_period_covered(g, period, reason) {
+        return false;
     }
-    is_reason_met(g, service, period, 0, 0, reason)
+    is_total_moved(reason, old, new)
 }
 
-// 17, of a variation; old holds no pairs where no offer is in force.
+// 17, of a variation and of a standing offer over a held one; old holds no pairs where no offer is in force.
 pub fn gate_refuses(
     clock: u64,
     g: Grounds,
@@ -236,13 +262,4 @@ pub fn gate_refuses(
         return !same_prices(old, new);
     }
     true
-}
-
-// 17, of a standing offer over a held one.
-pub fn standing_gate_refuses(clock: u64, slot: u64) -> bool
-    requires { ⌜ (clock ≤ 1000000000) × (slot < 336) ⌝ }
-    ensures { λ r. ⌜ r ≡ standing-gate-refuses clock slot ⌝ }
-{
-    let next = bilzhaan_next_period(clock as u32, slot as u32);
-    !is_before_closure(clock, next as u64)
 }

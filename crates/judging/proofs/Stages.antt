@@ -6,12 +6,12 @@ use mathlib.Core.Option.{Option, none, some}
 use Prim.Native.Nat.{ℕ}
 use native.Mathlib.Omega.{arith}
 use lib.IntN.{ℤ}
-use Rattle.offer_rules.specs.Numbers.{draw}
-use Rattle.offer_rules.specs.Time.{slot-of}
+use Rattle.offer_rules.specs.Numbers.{draw, _then_}
+use Rattle.offer_rules.specs.Time.{slot-of, next-period}
 use Rattle.offer_rules.specs.Offer.{Pair, pairs, Held, all-blank}
 use Rattle.offer_rules.specs.Gate.{Grounds, is-open, gate-refuses}
 use Rattle.book_rules.specs.Force.{View, first-of, variation-made, will-stand, pairs-of}
-use Rattle.book_rules.specs.Refusals.{equal-words, over-held, revision-number, gate-number}
+use Rattle.book_rules.specs.Refusals.{gate-number, over-held, revision-number}
 use Rattle.cells.specs.declared.InForce as place
 use Rattle.cells.specs.declared.InForce.the-variants.{Nothing, Standing, Variation}
 use Rattle.cells.specs.Meaning.{held-at, meaning, is-nothing, is-same-offer}
@@ -25,15 +25,15 @@ module _ (w : List ℤ) where
   nothing-held (Variation at) o e h = absurd (false≢true h)
 
   -- 17 and 18 over what is held.
-  pub one-held : (x : place.InForce) (held : Option Held) (now k : ℕ) (o : List ℤ) → meaning w x ≡ first-of none held → is-nothing x ≡ false
-      → over-held now k (is-same-offer (meaning w x) o) ≡ revision-number now k held o
-  unfolding meaning first-of is-nothing is-same-offer revision-number
-  one-held Nothing held now k o e n = absurd (true≢false n)
-  one-held (Standing at) none now k o e n = let z : _≡_ {A = ℕ} 0 1 = cc e in absurd (omega arith)
-  one-held (Standing at) (some h) now k o e n =
-      let q : held-at w at ≡ h = cc e in ap (λ (x : Held). over-held now k (equal-words (x .offer) o)) q
-  one-held (Variation at) none now k o e n = let z : _≡_ {A = ℕ} 0 1 = cc e in absurd (omega arith)
-  one-held (Variation at) (some h) now k o e n = let z : _≡_ {A = ℕ} 0 1 = cc e in absurd (omega arith)
+  pub one-held : (x : place.InForce) (held : Option Held) (now : ℕ) (g : Grounds) (s k reason : ℕ) (o : List ℤ) → meaning w x ≡ first-of none held → is-nothing x ≡ false
+      → (gate-number now g s (next-period now k) reason (pairs-of (meaning w x)) (pairs o) then draw (is-same-offer (meaning w x) o) 18)
+      ≡ revision-number now g s k reason held o
+  unfolding meaning first-of is-nothing pairs-of is-same-offer over-held revision-number
+  one-held Nothing held now g s k reason o e n = absurd (true≢false n)
+  one-held (Standing at) none now g s k reason o e n = let z : _≡_ {A = ℕ} 0 1 = cc e in absurd (omega arith)
+  one-held (Standing at) (some h) now g s k reason o e n = let q : held-at w at ≡ h = cc e in ap (λ (x : Held). over-held now g s k reason (x .offer) o) q
+  one-held (Variation at) none now g s k reason o e n = let z : _≡_ {A = ℕ} 0 1 = cc e in absurd (omega arith)
+  one-held (Variation at) (some h) now g s k reason o e n = let z : _≡_ {A = ℕ} 0 1 = cc e in absurd (omega arith)
 
 -- What will stand: the sent offer, or, where its pairs are all blank, what stands of the slot.
 module _ (vw : View) (f s p : ℕ) (o : List ℤ) where
@@ -45,7 +45,7 @@ module _ (vw : View) (f s p : ℕ) (o : List ℤ) where
   unfolding will-stand variation-made
   standing-stands h = rw h
 
--- Before closure a variation draws no 17, whatever stands before and after.
+-- Before closure no offer draws 17, whatever old and new are.
 pub open-draws-none : (now : ℕ) (g : Grounds) (s p reason : ℕ) (old new : List Pair) → is-open now p ≡ true → gate-number now g s p reason old new ≡ 0
 unfolding gate-number gate-refuses draw
 open-draws-none now g s p reason old new h = rw h

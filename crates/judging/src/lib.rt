@@ -4,14 +4,17 @@ ghost use mathlib.Core.Path.{_≡_};
 ghost use Prim.Native.Nat.{_+_, _≤_, _<_};
 ghost use lib.ListN.{length};
 ghost use Rattle.offer_rules.specs.Numbers.{toNat, word};
+ghost use Rattle.offer_rules.specs.Time.{next-period};
 ghost use Rattle.offer_rules.specs.Offer.{pairs-in, pairs, all-blank, offer-number};
 ghost use Rattle.book_rules.specs.Words.{part, clock-place, limits-place, facility-place};
 ghost use Rattle.book_rules.specs.Force.{in-force, will-stand, pairs-of};
-ghost use Rattle.book_rules.specs.Refusals.{facility-number, gate-number, period-number, admission-number, admitted-standing, grounds};
+ghost use Rattle.book_rules.specs.Refusals.{facility-number, gate-number, period-number, admission-number, revision-number, admitted-standing, grounds};
 ghost use Rattle.book_rules.specs.Book.{facilities-in, services-in, window-in, book-view};
 ghost use Rattle.offers.specs.PairTests.{UsesFive};
 ghost use Rattle.gate.specs.Meaning.{window-of, grounds-of};
+ghost use Rattle.cells.specs.Meaning.{meaning, end-of};
 ghost use Rattle.judging.specs.Usable.{Usable};
+use cells::InForce;
 use cells::held_standing;
 use cells::in_force;
 use cells::is_nothing;
@@ -26,6 +29,7 @@ use layout::facility;
 use layout::head;
 use layout::offer;
 use layout::refusal;
+use periods::bilzhaan_next_period;
 use refusals::draw_if;
 use refusals::first_drawn;
 use units::nat;
@@ -117,30 +121,6 @@ pub fn offer_number(book: &[i32], f: usize, service: u8, reason: u8, offer: &[i3
         reason,
         offer,
     )
-}
-
-// 11 to 18 of a standing offer that is admitted: "A first one always passes the gate."
-pub fn admitted_standing(book: &[i32], f: usize, service: u8, slot: usize, offer: &[i32]) -> u8
-    requires { ⌜ Usable (now book) × (f < facilities-in (now book)) × (service < services-in (now book)) × (slot < 336) × (length (now offer) ≡ 23) × UsesFive service (now offer) ⌝ }
-    ensures { λ r. ⌜ (r ≡ admitted-standing (book-view (now (book .entry))) f service slot (now (offer .entry))) × (r ≤ 18) ⌝ }
-{
-    let number = offer_number(book, f, service, 0, offer);
-    if number != 0 {
-        return number;
-    }
-    let held = held_standing(
-        book,
-        facilities(book),
-        services(book),
-        f,
-        wide(service),
-        slot,
-    );
-    if is_nothing(held) {
-        return 0;
-    }
-    let same = is_same_offer(book, held, offer);
-    refusals::revision_number(clock(book), slot as u64, same)
 }
 
 // ---- the gate
@@ -259,4 +239,86 @@ pub fn variation_gate_number<'a>(
     let old = pairs_before(book, f, service, period);
     let new = pairs_afterwards(book, f, service, period, offer, blank);
     gate_number(book, f, service, period, reason, old, new)
+}
+
+// ---- a standing offer over a held one
+
+// "the slot's next period not yet begun"
+fn next_period(book: &[i32], slot: usize) -> usize
+    requires { ⌜ Usable (now book) × (slot < 336) ⌝ }
+    ensures { λ r. ⌜ (r ≡ next-period (toNat (word (now (book .entry)) clock-place)) slot) × (r < 2147483647) ⌝ }
+{
+    let next = bilzhaan_next_period(clock(book) as u32, slot as u32);
+    next as usize
+}
+
+// 17 of a standing offer over the held one. Before closure, where most are filed, no window and no pair is read.
+fn standing_gate_number(
+    book: &[i32],
+    f: usize,
+    service: u8,
+    slot: usize,
+    reason: u8,
+    held: InForce,
+    offer: &[i32],
+) -> u8
+    requires { ⌜ Usable (now book) × (f < facilities-in (now book)) × (service < services-in (now book)) × (slot < 336) × (end-of held ≤ length (now book)) × (length (now offer) ≡ 23) ⌝ }
+    ensures { λ r. ⌜ (r ≡ gate-number (toNat (word (now (book .entry)) clock-place)) (grounds (book-view (now (book .entry))) f) service (next-period (toNat (word (now (book .entry)) clock-place)) slot) reason (pairs-of (meaning (now (book .entry)) held)) (pairs (now (offer .entry)))) × (r ≤ 17) ⌝ }
+{
+    let next = next_period(book, slot);
+    if is_before_closure(clock(book), next as u64) {
+        return 0;
+    }
+    let old = pairs_of(book, held);
+    let new = &offer[offer::PAIRS..];
+    gate_number(book, f, service, next, reason, old, new)
+}
+
+// 17, then 18 where it is equal to the held one. "A first one always passes the gate."
+fn revision_number(
+    book: &[i32],
+    f: usize,
+    service: u8,
+    slot: usize,
+    reason: u8,
+    offer: &[i32],
+) -> u8
+    requires { ⌜ Usable (now book) × (f < facilities-in (now book)) × (service < services-in (now book)) × (slot < 336) × (length (now offer) ≡ 23) ⌝ }
+    ensures { λ r. ⌜ (r ≡ revision-number (toNat (word (now (book .entry)) clock-place)) (grounds (book-view (now (book .entry))) f) service slot reason (book-view (now (book .entry)) .standing f service slot) (now (offer .entry))) × (r ≤ 18) ⌝ }
+{
+    let held = held_standing(
+        book,
+        facilities(book),
+        services(book),
+        f,
+        wide(service),
+        slot,
+    );
+    if is_nothing(held) {
+        return 0;
+    }
+    let gate = standing_gate_number(book, f, service, slot, reason, held, offer);
+    if gate != 0 {
+        return gate;
+    }
+    draw_if(is_same_offer(book, held, offer), refusal::DUPLICATE)
+}
+
+// 11 to 18 of a standing offer that is admitted.
+pub fn admitted_standing(
+    book: &[i32],
+    f: usize,
+    service: u8,
+    slot: usize,
+    reason: u8,
+    offer: &[i32],
+) -> u8
+    requires { ⌜ Usable (now book) × (f < facilities-in (now book)) × (service < services-in (now book)) × (slot < 336) × (length (now offer) ≡ 23) × UsesFive service (now offer) ⌝ }
+    ensures { λ r. ⌜ (r ≡ admitted-standing (book-view (now (book .entry))) f service slot reason (now (offer .entry))) × (r ≤ 18) ⌝ }
+{
+    let number = offer_number(book, f, service, reason, offer);
+    if number != 0 {
+        return number;
+    }
+    revision_number(book, f, service, slot, reason, offer)
 }

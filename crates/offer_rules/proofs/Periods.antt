@@ -1,5 +1,5 @@
 -- Periods that may be filed for, and the periods of one slot.
-use mathlib.Core.Path.{_≡_, refl, sym, _∙_}
+use mathlib.Core.Path.{_≡_, refl, sym}
 use mathlib.Core.Logic.{_≢_}
 use mathlib.Core.Bool.{Bool, true, false, cond, true≢false}
 use Prim.Native.Nat.{ℕ, zero, suc, _+_, _*_, _-_, _/_, _%_, _≤_, _<_}
@@ -76,22 +76,16 @@ pub next-is-least : NextIsLeast
 unfolding next-period
 next-is-least now k h = counted-least _ now k _ (omega arith) (λ q e a. omega arith) (omega arith)
 
--- and no other period is. The code's promise is of slot-of k, which is k.
-own-slot : (k : ℕ) → k < slots → slot-of k ≡ k
-own-slot k h = omega arith
-
-pub next-is-one : (now k p : ℕ) → k < slots → IsNext now (slot-of k) p → p ≡ next-period now k
-next-is-one now k p h n = one (next-is-least now k h)
+-- and no other period is.
+pub next-is-one : (now k p : ℕ) → IsNext now k p → p ≡ next-period now k
+next-is-one now k p n = one (next-is-least now k (omega (arith, n .of-the-slot)))
   where
     one : IsNext now k (next-period now k) → p ≡ next-period now k
-    one m = omega (arith, n .least _ (m .of-the-slot ∙ sym (own-slot k h)) (m .not-begun), m .least p (n .of-the-slot ∙ own-slot k h) (n .not-begun))
+    one m = omega (arith, n .least _ (m .of-the-slot) (m .not-begun), m .least p (n .of-the-slot) (n .not-begun))
 
 -- By remainders: how far the slot lies after the first period not yet begun.
 pub next-by-remainders : (now k : ℕ) → k < slots → next-period now k ≡ now / 30 + 1 + (k + slots - slot-of (now / 30 + 1)) % slots
-next-by-remainders now k h = sym (next-is-one now k _ h (starts-next now (slot-of k) _ (omega arith) (omega arith) (λ q e a. least q (e ∙ own-slot k h) a)))
-  where
-    least : (q : ℕ) → slot-of q ≡ k → now < start-of q → now / 30 + 1 + (k + slots - slot-of (now / 30 + 1)) % slots ≤ q
-    least q e a = omega arith
+next-by-remainders now k h = sym (next-is-one now k _ (starts-next now k _ (omega arith) (omega arith) (λ q e a. omega arith)))
 
 -- It is no later than the slot's period in the week after this minute's.
 pub next-is-near : (now k p : ℕ) → IsNext now (slot-of k) p → p ≤ slot-of k + slots * (now / start-of slots + 1)

@@ -6,7 +6,7 @@ use lib.Dec.{leb, ltb, eqb}
 use lib.IntN.{ℤ, pos}
 use lib.Signed.{leZ}
 use Rattle.offer_rules.specs.Numbers.{eqZ, toNat}
-use Rattle.offer_rules.specs.Time.{start-of, next-period}
+use Rattle.offer_rules.specs.Time.{start-of}
 use Rattle.offer_rules.specs.Kinds.{admits}
 use Rattle.offer_rules.specs.Offer.{Pair, is-energy}
 
@@ -47,19 +47,26 @@ pub record Grounds : Type 0 where
   pub shortfall : Window
   pub status : Window
 
--- What a reason, 1 to 6, asks of service s, period p and the totals of old and new.
-unfoldable pub reason-met : Grounds → ℕ → ℕ → ℕ → ℕ → ℕ → Bool
-reason-met g s p old new reason =
-    cond (eqb reason 1) true
-    (cond (eqb reason 2) (covers (g .outage) p)
-    (cond (eqb reason 3) ((is-energy s && covers (g .surplus) p) && ltb new old)
-    (cond (eqb reason 4) (covers (g .shortfall) p && ltb old new)
-    (cond (eqb reason 5) (covers (g .status) p && ltb old new)
-    (cond (eqb reason 6) (covers (g .outage) p) false)))))
+-- What each reason asks. Of the kind, 1 and 2 "generation", 6 "load", for a link 3 to 5: Kinds, `admits`. Of service s, "3 service 0":
+unfoldable pub admits-service : ℕ → ℕ → Bool
+admits-service s reason = cond (eqb reason 3) (is-energy s) true
 
--- "Inside that it needs a reason": one that admits the facility's kind (1 and 2 "generation", 6 "load", for a link 3 to 5), and is met.
+-- Of period p, 2 and 6 "P in the outage window", 3, 4 and 5 "P in that notice":
+unfoldable pub period-covered : Grounds → ℕ → ℕ → Bool
+period-covered g p reason =
+    cond (eqb reason 2) (covers (g .outage) p)
+    (cond (eqb reason 3) (covers (g .surplus) p)
+    (cond (eqb reason 4) (covers (g .shortfall) p)
+    (cond (eqb reason 5) (covers (g .status) p)
+    (cond (eqb reason 6) (covers (g .outage) p) true))))
+
+-- Of the totals, 3 "new total below old", 4 and 5 "new total above old":
+unfoldable pub total-moved : ℕ → ℕ → ℕ → Bool
+total-moved reason old new = cond (eqb reason 3) (ltb new old) (cond (eqb reason 4) (ltb old new) (cond (eqb reason 5) (ltb old new) true))
+
+-- "Inside that it needs a reason": one that holds, given the totals of old and new. 0, and what is above 6, admits no kind.
 unfoldable pub reason-holds : Grounds → ℕ → ℕ → ℕ → ℕ → ℕ → Bool
-reason-holds g s p old new reason = admits (g .kind) reason && reason-met g s p old new reason
+reason-holds g s p old new reason = (admits (g .kind) reason && admits-service s reason) && (period-covered g p reason && total-moved reason old new)
 
 -- "A variation is open when 30·P − now is 65 or more."
 abbrev pub gate-minutes : ℕ
@@ -68,11 +75,8 @@ gate-minutes = 65
 abbrev pub is-open : ℕ → ℕ → Bool
 is-open now p = leb (now + gate-minutes) (start-of p)
 
--- 17, of a variation: old is the offer in force before the call, new the one that will stand for p after it.
+-- 17, of a variation and of a standing offer over a held one: "The reasons and the tenth-by-tenth price condition are those of a variation" (document 02).
+-- Which p, old and new each is judged by is in book_rules, Refusals.
 unfoldable pub gate-refuses : ℕ → Grounds → ℕ → ℕ → ℕ → List Pair → List Pair → Bool
 gate-refuses now g s p reason old new =
     not (is-open now p || (reason-holds g s p (total-tenths old) (total-tenths new) reason && same-prices old new))
-
--- 17, of a standing offer over a held one: "refused inside 65 minutes of the slot's next period not yet begun, reasons or not".
-unfoldable pub standing-gate-refuses : ℕ → ℕ → Bool
-standing-gate-refuses now k = not (is-open now (next-period now k))

@@ -1,14 +1,14 @@
 -- A record's stray bytes are those that are not zero in the gaps between the bytes that its call uses.
 -- Whether gaps are those of a call is computed: both sides become the same tests, byte by byte.
 use mathlib.Core.Path.{_≡_, refl, sym, _∙_}
-use mathlib.Core.Bool.{Bool, true, false, cond, not, _&&_, _||_, or-false, or-assoc, and-comm}
+use mathlib.Core.Bool.{Bool, false, not, _&&_, _||_, or-false, or-assoc, and-comm}
 use mathlib.Core.List.{List, [], _∷_}
 use Prim.Native.Nat.{ℕ, zero, suc, _+_, _-_, _<_, _≤_}
 use native.Mathlib.Omega.{arith}
-use lib.Dec.{eqb, ltb}
+use lib.Dec.{eqb}
 use lib.ListN.{length, getD, drop, drop-of-length-le}
 use lib.Seq.{drop-cons}
-use Rattle.book_rules.specs.Record.{byte, any-stray, used-by-offer, used}
+use Rattle.book_rules.specs.Record.{byte, any-stray}
 use Rattle.record.specs.Gaps.{any-set}
 
 -- ---- a loop over the bytes from i to before z
@@ -74,19 +74,3 @@ each-byte f g b (suc n) i e h = rw (drop-cons b i 0 (omega arith), h i, and-comm
 pub stray-in-gaps : (f g : ℕ → Bool) (b : List ℕ) (l : List Gap) → length b ≡ 112 → ((j : ℕ) → f j ≡ g j) → gap-bytes b l ≡ unused-bytes g b 6 106
     → set-in-gaps b l ≡ any-stray f 6 (drop 6 b)
 stray-in-gaps f g b l n h e = each-gap b l ∙ e ∙ sym (each-byte f g b 106 6 (sym n) h)
-
--- a standing offer has a gap at byte 12, where a variation has its reason
-offer-past-reason : (s : ℕ) → used-by-offer s 12 ≡ false
-unfolding used-by-offer
-offer-past-reason s = go (eqb s 0) (ltb s 4)
-  where
-    go : (e l : Bool) → cond e false ((l && false) || false) ≡ false
-    go true l = refl
-    go false true = refl
-    go false false = refl
-
-pub standing-stray : (s : ℕ) (b : List ℕ) → length b ≡ 112
-    → (not (eqb (byte b 12) 0) || any-stray (used 4 s) 6 (drop 6 b)) ≡ any-stray (used 3 s) 6 (drop 6 b)
-unfolding used unused-bytes
-standing-stray s b n =
-    rw (each-byte (used 3 s) (used 3 s) b 106 6 (sym n) (λ j. refl), each-byte (used 4 s) (used 4 s) b 106 6 (sym n) (λ j. refl), offer-past-reason s)

@@ -211,12 +211,12 @@ fn any_set(bytes: &[u8], from: usize, to: usize) -> bool
     seen
 }
 
-// 4 of a variation, by its service.
+// 4 of an offer, standing or variation, by its service.
 // "An offer for service 0 uses both ramps and ten pairs; for 1 to 3 the proportion and five pairs; for 4 five pairs."
 // The gaps of service 0 are tested apart: A and B by themselves are one comparison of eight bytes.
 fn has_stray_beside_offer(bytes: &[u8], service: u8) -> bool
     requires { ⌜ length (now bytes) ≡ 112 ⌝ }
-    ensures { λ r. ⌜ r ≡ any-stray (used 4 service) 6 (drop 6 (now (bytes .entry))) ⌝ }
+    ensures { λ r. ⌜ r ≡ any-stray (used 3 service) 6 (drop 6 (now (bytes .entry))) ⌝ }
 {
     if service == facility::ENERGY {
         any_set(bytes, ZERO, RAMP_UP) || any_set(bytes, A, W0)
@@ -229,8 +229,8 @@ fn has_stray_beside_offer(bytes: &[u8], service: u8) -> bool
 }
 
 // 4 "an unused byte not zero": the gaps between the bytes of "The nine calls and what they use", from byte 6 on.
-// Their ends are constants: a match for each byte takes thirty times as long. A standing offer has a gap at byte 12, where a variation
-// has its reason; past it calls 3 and 4 share one test of the offer, which is compiled in place as it is called once.
+// Their ends are constants: a match for each byte takes thirty times as long. Calls 3 and 4 use the same bytes; their test is compiled in
+// place as it is called once.
 fn has_stray(bytes: &[u8]) -> bool
     requires { ⌜ length (now bytes) ≡ 112 ⌝ }
     ensures { λ r. ⌜ r ≡ has-stray (now (bytes .entry)) ⌝ }
@@ -239,11 +239,7 @@ fn has_stray(bytes: &[u8]) -> bool
     match call {
         1 => return any_set(bytes, FACILITY, A) | any_set(bytes, B, BYTES),
         2 => return any_set(bytes, SERVICE, W0) | any_set(bytes, W17, BYTES),
-        3 => {
-            if bytes[REASON] != 0 {
-                return true;
-            }
-        }
+        3 => {}
         4 => {}
         5 => return any_set(bytes, SERVICE, A) | any_set(bytes, W0, BYTES),
         6 => return any_set(bytes, FACILITY, REASON)

@@ -1,4 +1,4 @@
-// Document 01, "Who draws which number": 5 to 9, 17 of a standing offer, and 18, from values that the book hands over.
+// Document 01, "Who draws which number": 5 to 9, from values that the book hands over.
 // A facility's capability is 17 words W0 to W16.
 ghost use mathlib.Core.Path.{_≡_};
 ghost use mathlib.Core.Bool.{not, _&&_};
@@ -8,8 +8,7 @@ ghost use lib.ListN.{length};
 ghost use Rattle.offer_rules.specs.Numbers.{eqZ, toNat, word, draw, _then_};
 ghost use Rattle.offer_rules.specs.Kinds.{is-in};
 ghost use Rattle.kinds.specs.Meaning.{range-of};
-ghost use Rattle.book_rules.specs.Refusals.{facility-number, clock-number, outage-number, notice-number, withdrawal-number, is-registered, kind-refused, maxima-refused, any-mark-astray, marks-refused, capability-number, registration-number, over-held};
-use gate::standing_gate_refuses;
+ghost use Rattle.book_rules.specs.Refusals.{facility-number, clock-number, outage-number, notice-number, withdrawal-number, is-registered, kind-refused, maxima-refused, any-mark-astray, marks-refused, capability-number, registration-number};
 use kinds::Range;
 use kinds::is_in;
 use kinds::is_kind;
@@ -197,15 +196,4 @@ pub fn registration_number(capability: &[i32], service: u8) -> u8
     let registered = is_registered(capability, service);
     let offered = may_offer(capability[facility::KIND], service);
     draw_if(!registered | !offered, refusal::NOT_REGISTERED)
-}
-
-// ---- 17 and 18: a standing offer over a held one
-
-// 17, then 18 where it is equal to the held one.
-pub fn revision_number(clock: u64, slot: u64, same: bool) -> u8
-    requires { ⌜ (clock ≤ 1000000000) × (slot < 336) ⌝ }
-    ensures { λ r. ⌜ (r ≡ over-held clock slot same) × (r ≤ 18) ⌝ }
-{
-    let gate = draw_if(standing_gate_refuses(clock, slot), refusal::GATE_CLOSED);
-    first_drawn(gate, draw_if(same, refusal::DUPLICATE))
 }

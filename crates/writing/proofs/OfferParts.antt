@@ -44,7 +44,8 @@ admission-of w b is-refused = admission-number (part (facility-place (facility-o
 
 module _ (w : List ℤ) (b : List ℕ) where
   pub standing-parts : call-of b ≡ 3
-      → judge (book-view w) b ≡ (admission-of w b (slot-refused (period-word b)) then admitted-standing (book-view w) (facility-of b) (service-of b) (toNat (period-word b)) (offer-in b))
+      → judge (book-view w) b
+      ≡ (admission-of w b (slot-refused (period-word b)) then admitted-standing (book-view w) (facility-of b) (service-of b) (toNat (period-word b)) (reason-of b) (offer-in b))
   unfolding standing-number book-view
   standing-parts c = judge-standing (book-view w) b c
 
@@ -86,7 +87,7 @@ module _ (w : List ℤ) (b : List ℕ) (t : Tested w b) where
   pub offer-uses-five : (call-of b ≡ 3) ⊎ (call-of b ≡ 4) → UsesFive (service-of b) (offer-in b)
   offer-uses-five c other = last-five-unsent b none-stray c other
 
-  pub standing-ramps : call-of b ≡ 3 → (k n : ℕ) → n ≡ admitted-standing (book-view w) (facility-of b) (service-of b) k (offer-in b) → n ≡ 0 → ramps-fit (offer-in b) ≡ true
+  pub standing-ramps : call-of b ≡ 3 → (k n : ℕ) → n ≡ admitted-standing (book-view w) (facility-of b) (service-of b) k (reason-of b) (offer-in b) → n ≡ 0 → ramps-fit (offer-in b) ≡ true
   standing-ramps c k n e z = admitted-standing-fits (book-view w) b none-stray k c (sym e ∙ z)
 
   pub variation-ramps : call-of b ≡ 4 → own-offer-number w b ≡ 0 → ramps-fit (offer-in b) ≡ true

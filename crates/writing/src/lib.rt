@@ -153,9 +153,10 @@ fn stand(book: &mut [i32], bytes: &[u8]) -> u8
     let f = wide(bytes[fields::FACILITY]);
     let service = bytes[fields::SERVICE];
     let slot = nat(word_at(bytes, fields::PERIOD)) as usize;
+    let reason = bytes[fields::REASON];
     let mut offer = [0i32; offer::WORDS];
     read_offer(bytes, &mut offer);
-    let number = admitted_standing(book, f, service, slot, &offer);
+    let number = admitted_standing(book, f, service, slot, reason, &offer);
     file_standing(book, f, service, slot, &offer, number)
 }
 

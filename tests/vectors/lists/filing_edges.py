@@ -144,13 +144,16 @@ def slots_and_periods(t):
 
 
 def reason_byte(t):
-    """An open variation's reason at 0 to 6 passes, 7 and above draws 11; a standing offer has none: any draws 4."""
+    """Gate open, the reason of a variation, of a standing offer over a held one and of a first one: 0 to 6 pass, 7 and above draw 11."""
     t.open(1, 5)
     t.call(capability(0, GENERATION))
-    for reason in (0, 1, 2, 3, 4, 5, 6, 7, 8, 127, 128, 255):
-        t.call(variation(0, 0, 60, [(1, 2)], reason), 0 if reason <= 6 else 11)
-        t.call(with_bytes(standing(0, 0, 60, [(1, 3)]), {12: reason}), 0 if reason == 0 else 4)
-        t.call(variation(0, 4, 60, [(1, 2)], reason), 0 if reason <= 6 else 11)
+    for s in (0, 4):
+        t.call(standing(0, s, 60, [(1, 3)]))
+        for i, reason in enumerate((0, 1, 2, 3, 4, 5, 6, 7, 8, 127, 128, 255)):
+            number = 0 if reason <= 6 else 11
+            t.call(variation(0, s, 60, [(1, 2)], reason), number)
+            t.call(standing(0, s, 60, [(1, 4 + i)], reason=reason), number)
+            t.call(standing(0, s, 70 + i, [(1, 3)], reason=reason), number)
     t.words()
 
 
@@ -259,10 +262,9 @@ def energy_offer_mended(t):
     """An energy offer with everything wrong, mended one thing at a time: the numbers rise from 2 to 0, standing offer and variation."""
     worst, fallen, high, good = [(450001, 801), (7, 0), (5, 4)], [(6, 801), None, (5, 4)], [(4, 801), None, (5, 4)], [(4, 796), None, (5, 4)]
     for offer in (standing, variation):
-        reason = {12: 7} if offer is variation else {}
         t.open(1, 1)
         t.call(clock(30 * 60 - 64))
-        r = with_bytes(offer(0, 0, -1, worst, ramps=(51, 0)), reason)
+        r = offer(0, 0, -1, worst, ramps=(51, 0), reason=7)
         t.call(with_bytes(r, {0: 0, 6: 1, 13: 1}), 2)
         t.call(with_bytes(r, {6: 1, 13: 1}), 3)
         t.call(with_bytes(r, {13: 1}), 4)
@@ -271,8 +273,8 @@ def energy_offer_mended(t):
         t.call(r, 9)
         t.call(capability(0, GENERATION))
         t.call(r, 10)
-        t.call(with_bytes(offer(0, 0, 60, worst, ramps=(51, 0)), reason), 11)
-        t.call(with_bytes(offer(0, 0, 60, [(4, 801), (7, 0), (5, 4)], ramps=(51, 0)), reason), 11 if reason else 12)
+        t.call(offer(0, 0, 60, worst, ramps=(51, 0), reason=7), 11)
+        t.call(offer(0, 0, 60, [(4, 801), (7, 0), (5, 4)], ramps=(51, 0), reason=7), 11)
         t.call(offer(0, 0, 60, worst, ramps=(51, 0)), 11)
         t.call(offer(0, 0, 60, [(6, 801), (7, 0), (5, 4)], ramps=(51, 0)), 12)
         t.call(offer(0, 0, 60, fallen, ramps=(51, 0)), 13)
@@ -285,6 +287,7 @@ def energy_offer_mended(t):
             t.call(look_up(0, 0, 60), 0, 4, 800)
         else:
             t.call(standing(0, 0, 60, good, ramps=(50, 40)), 17)
+            t.call(standing(0, 0, 60, good, ramps=(50, 40), reason=1), 18)
             t.call(clock(30 * 60))
             t.call(standing(0, 0, 60, good, ramps=(50, 40)), 18)
         t.words()

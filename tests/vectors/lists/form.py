@@ -4,7 +4,7 @@ Each line is written with the number that the papers give it, and each look-up a
 author read them. make.py compares them with the answers.
 """
 
-LEVEL = 4  # document 02's requests up to K4
+LEVEL = 5  # document 02's requests up to K5
 
 LIMITS = (-450000, 450000, 400000, 400001, 400002, 400003)
 
@@ -66,8 +66,8 @@ def _pairs(pairs):
     return [n for pair in pairs for n in pair or (0, 0)]
 
 
-def standing(f, s, slot, pairs=(), proportion=0, ramps=(0, 0)):
-    return record(3, f, s, slot, 0, proportion, ramps, w=_pairs(pairs))
+def standing(f, s, slot, pairs=(), proportion=0, ramps=(0, 0), reason=0):
+    return record(3, f, s, slot, reason, proportion, ramps, w=_pairs(pairs))
 
 
 def variation(f, s, period, pairs=(), reason=0, proportion=0, ramps=(0, 0)):

@@ -318,7 +318,7 @@ def take_backs_of_a_link(t):
 
 
 def standing_offers_of_a_link(t):
-    """A link's first standing offer passes the gate at any minute; over a held one it is refused inside 65 minutes, notices or not."""
+    """A link's first standing offer passes the gate at any minute; over a held one and without a reason it is refused inside 65 minutes, notices or not."""
     t.open(1, 1)
     t.call(capability(0, LINK))
     for kind in (3, 4, 5):

@@ -5,9 +5,9 @@ from .form import (GENERATION, LEAST, MOST, capability, clock, look_up, notice, 
 # What each call uses, by byte: "The nine calls and what they use"
 SHAPES = [(clock(7), [(24, 27)]),
           (capability(0, GENERATION), [(6, 6), (32, 99)]),
-          (standing(0, 0, 4, [(1, 2)]), [(6, 11), (16, 23), (32, 111)]),
-          (standing(0, 2, 4, [(1, 2)], 3), [(6, 11), (14, 15), (32, 71)]),
-          (standing(0, 4, 4, [(1, 2)]), [(6, 11), (32, 71)]),
+          (standing(0, 0, 4, [(1, 2)]), [(6, 12), (16, 23), (32, 111)]),
+          (standing(0, 2, 4, [(1, 2)], 3), [(6, 12), (14, 15), (32, 71)]),
+          (standing(0, 4, 4, [(1, 2)]), [(6, 12), (32, 71)]),
           (variation(0, 0, 4, [(1, 2)], 1), [(6, 12), (16, 23), (32, 111)]),
           (variation(0, 3, 4, [(1, 2)], 1, 3), [(6, 12), (14, 15), (32, 71)]),
           (variation(0, 4, 4, [(1, 2)], 1), [(6, 12), (32, 71)]),
@@ -150,12 +150,12 @@ def record_several_at_once(t):
     t.test(with_bytes(worst, {0: ord('S'), 7: 4}), 64, 5, 3)
     t.test(with_bytes(worst, {0: ord('S'), 6: 63, 7: 4}), 64, 5, 4)
     t.test(with_bytes(worst, {0: ord('S'), 6: 63, 7: 4, 13: 0}), 64, 5, 0)
-    t.test(with_bytes(standing(3, 1, 4, [], 0, (1, 1)), {12: 1}), 3, 5, 3)
-    t.test(with_bytes(standing(2, 1, 4, [], 0, (1, 1)), {12: 1}), 3, 5, 4)
-    t.test(with_bytes(standing(2, 1, 4), {12: 1}), 3, 5, 4)
-    t.test(variation(2, 1, 4, reason=1), 3, 5, 0)
-    t.test(variation(2, 1, 4, reason=255), 3, 5, 0)
-    t.test(variation(2, 1, 4, reason=255), 3, 1, 3)
+    for offer in (standing, variation):
+        t.test(offer(3, 1, 4, ramps=(1, 1), reason=1), 3, 5, 3)
+        t.test(offer(2, 1, 4, ramps=(1, 1), reason=1), 3, 5, 4)
+        for reason in (1, 255):
+            t.test(offer(2, 1, 4, reason=reason), 3, 5, 0)
+            t.test(offer(2, 1, 4, reason=reason), 3, 1, 3)
 
 
 def record_test_and_call(t):

@@ -137,7 +137,7 @@ def gate_at_65_minutes(t):
 
 
 def standing_gate(t):
-    """A standing offer over a held one with 66 to 0 minutes to the slot's next period; 17 comes before 18, a first one always passes."""
+    """A standing offer without a reason over a held one, 66 to 0 minutes before the slot's next period; 17 comes before 18, a first one always passes."""
     t.open(2, 5)
     t.call(capability(0, GENERATION))
     t.call(standing(0, 0, 100, [(1, 1)]))

@@ -9,7 +9,7 @@ use mir.Syntax.{w32}
 use mir.Facts.{toZ-ofZ}
 use Rattle.offer_rules.specs.Numbers.{toNat}
 use Rattle.offer_rules.proofs.Periods.{slot-is}
-use Rattle.book_rules.specs.Record.{facility-of, service-of, period-word, offer-in}
+use Rattle.book_rules.specs.Record.{facility-of, service-of, period-word, reason-of, offer-in}
 use Rattle.book_rules.specs.Refusals.{admitted-standing}
 use Rattle.book_rules.specs.Book.{file-standing, book-view}
 use Rattle.book_rules.proofs.Calls.{length-offer}
@@ -25,11 +25,10 @@ slot-in : (s : tie.Start) → toNat (period-word (s .args .bytes .now)) < 336
 slot-in s = slot-is (period-word (s .args .bytes .now)) (admitted _ _ _ (s .pre .is-admitted)) .1
 
 -- The number that the offer draws.
-drawn : (c : tie.After-admitted-standing) → let b = c .before .before .before .before .before .before .before .before .before .before .before .before .args .bytes .now in
-    c .admitted-standing .result
-    ≡ admitted-standing (book-view (c .before .before .before .before .before .before .before .before .before .before .before .before .args .book .now)) (facility-of b) (service-of b) (toNat (period-word b)) (offer-in b)
+drawn : (c : tie.After-admitted-standing) → let s = c .before .before .before .before .before .before .before .before .before .before .before .before .before in let b = s .args .bytes .now in
+    c .admitted-standing .result ≡ admitted-standing (book-view (s .args .book .now)) (facility-of b) (service-of b) (toNat (period-word b)) (reason-of b) (offer-in b)
 drawn c =
-    rw (c .admitted-standing .ensures .0, c .before .before .before .before .before .before .before .before .before .wide .ensures, count (c .before .before .before .before .before .before), c .before .before .before .before .read-offer .ensures)
+    rw (c .admitted-standing .ensures .0, c .before .before .before .before .before .before .before .before .before .before .wide .ensures, count (c .before .before .before .before .before .before .before), c .before .before .before .before .read-offer .ensures)
 
 shared-slice-read-wide : tie.Need-shared-slice-read-wide
 shared-slice-read-wide c = search needs
@@ -46,6 +45,9 @@ word-at-requires c κs = search needs
 nat-requires : tie.Need-nat-requires
 nat-requires c κs = search needs
 
+shared-slice-read-reason : tie.Need-shared-slice-read-reason
+shared-slice-read-reason c = search needs
+
 slice-aggregate-read-offer : tie.Need-slice-aggregate-read-offer
 slice-aggregate-read-offer c = search needs
 
@@ -57,8 +59,8 @@ slice-aggregate-admitted-standing c = search needs
 
 admitted-standing-requires : tie.Need-admitted-standing-requires
 admitted-standing-requires c κs =
-    let s = c .before .before .before .before .before .before .before .before .before .before .before in
-    rw (c .before .before .before .before .before .before .before .before .wide .ensures, count (c .before .before .before .before .before), c .before .before .before .read-offer .ensures) (
+    let s = c .before .before .before .before .before .before .before .before .before .before .before .before in
+    rw (c .before .before .before .before .before .before .before .before .before .wide .ensures, count (c .before .before .before .before .before .before), c .before .before .before .read-offer .ensures) (
       s .pre .place .tested .usable,
       s .pre .place .facility-in,
       s .pre .place .service-in,
@@ -72,8 +74,8 @@ slice-aggregate-file-standing c = search needs
 
 file-standing-requires : tie.Need-file-standing-requires
 file-standing-requires c κs =
-    let s = c .before .before .before .before .before .before .before .before .before .before .before .before .before .before in
-    rw (c .before .before .before .before .before .before .before .before .before .before .before .wide .ensures, count (c .before .before .before .before .before .before .before .before), c .before .before .before .before .before .before .read-offer .ensures) (
+    let s = c .before .before .before .before .before .before .before .before .before .before .before .before .before .before .before in
+    rw (c .before .before .before .before .before .before .before .before .before .before .before .before .wide .ensures, count (c .before .before .before .before .before .before .before .before .before), c .before .before .before .before .before .before .read-offer .ensures) (
       s .pre .place .tested .usable,
       s .pre .place .facility-in,
       s .pre .place .service-in,
@@ -90,9 +92,9 @@ returns c =
     let x = c .before .file-standing in
     let n = c .before .before .before .before .admitted-standing in
     let o = c .before .before .before .before .before .before .before .before .read-offer in
-    let p = c .before .before .before .before .before .before .before .before .before .before in
-    let f = c .before .before .before .before .before .before .before .before .before .before .before .before .before .wide in
-    let s = c .before .before .before .before .before .before .before .before .before .before .before .before .before .before .before .before in
+    let p = c .before .before .before .before .before .before .before .before .before .before .before in
+    let f = c .before .before .before .before .before .before .before .before .before .before .before .before .before .before .wide in
+    let s = c .before .before .before .before .before .before .before .before .before .before .before .before .before .before .before .before .before in
     let w = s .args .book .now in
     let b = s .args .bytes .now in
     let call = s .pre .place .call-is in
@@ -110,6 +112,7 @@ stand-spec =
     shared-slice-read-service
     word-at-requires
     nat-requires
+    shared-slice-read-reason
     slice-aggregate-read-offer
     read-offer-requires
     slice-aggregate-admitted-standing
