@@ -16,8 +16,8 @@ use Rattle.book_rules.specs.Record.{call-of, facility-of, service-of, pe
 use Rattle.book_rules.specs.Words.{part, put, book-size, cell-place, standing-half, variation-half, cell, cell-held, holding, standing-stamp, variation-stamp}
 use Rattle.book_rules.specs.Force.{first-of, in-force, variation-made, will-stand, pairs-of}
 use Rattle.book_rules.specs.Book.{facilities-in, services-in, now-in, held, cell-in, write-cell, book-view, book-after}
-use Rattle.book_rules.specs.ByNumber.{own-gate, conditions-from-5, conditions, applies}
-use Rattle.book_rules.specs.Claims.{is-accepted, force-for, StandsAfterwards, HeldAsFiled}
+use Rattle.book_rules.specs.ByNumber.{own-force, own-gate, conditions-from-5, conditions, applies}
+use Rattle.book_rules.specs.Claims.{is-accepted, StandsAfterwards, HeldAsFiled}
 use Rattle.book_rules.proofs.Parts.{part-put, part-apart, word-before}
 use Rattle.book_rules.proofs.Calls.{named, standing-uses, variation-uses, length-offer, judge-standing}
 use Rattle.book_rules.proofs.Cells.{held-back, made-back, length-cell, length-holding}
@@ -145,5 +145,5 @@ stands-afterwards w b usable taken call =
     let p = toNat (period-word b) in
     let stands = stands-once-written w (facility-of b) (service-of b) p (offer-in b) (room-in w usable) (n .facility-in (y .0)) (n .service-in (y .1)) (length-offer b) in
     rw call
-    (ap (own-gate (book-view w) b p (pairs-of (force-for w b)))
-    (sym stands ∙ ap (λ (v : List ℤ). pairs-of (force-for v b)) (sym (accept-variation w b call))))
+    (ap (own-gate (book-view w) b p (pairs-of (own-force (book-view w) b)))
+    (sym stands ∙ ap (λ (v : List ℤ). pairs-of (own-force (book-view v) b)) (sym (accept-variation w b call))))

@@ -1,6 +1,6 @@
 -- What refusal 4 leaves of an offer, and a cell written and read back: 4 and 14 leave no ramps that word 2 doesn't give back.
 use mathlib.Core.Path.{_≡_, refl, sym, _∙_, ap}
-use mathlib.Core.Bool.{Bool, true, false, cond, not, _&&_, true≢false}
+use mathlib.Core.Bool.{Bool, true, false, cond, not, _&&_, _||_, true≢false}
 use mathlib.Core.List.{List, [], _∷_}
 use mathlib.Core.Option.{none, some}
 use mathlib.Core.Logic.{_≢_, _⊎_, inl, inr}
@@ -35,23 +35,28 @@ unused-zero f i (x ∷ l) e zero u = go (eqb x 0) refl (or-left (not (eqb x 0) &
 unused-zero f i (x ∷ l) e (suc k) u =
     unused-zero f (suc i) l (or-right (not (eqb x 0) && not (f i)) (any-stray f (suc i) l) e) k (ap f (omega arith) ∙ u)
 
+of-either-offer : (k s i : ℕ) → (k ≡ 3) ⊎ (k ≡ 4) → used k s i ≡ (between 6 12 i || used-by-offer s i)
+unfolding used
+of-either-offer k s i (inl e) = rw e
+of-either-offer k s i (inr e) = rw e
+
 -- "An offer for service 0 uses both ramps and ten pairs": no other uses more than five, nor a ramp.
 module _ (b : List ℕ) (none-stray : has-stray b ≡ false) (call : (call-of b ≡ 3) ⊎ (call-of b ≡ 4)) (other : service-of b ≢ 0) where
   unused-by-offer : (i : ℕ) → 16 ≤ i → between 32 71 i ≡ false → used-by-offer (service-of b) i ≡ false
   unfolding used-by-offer
   unused-by-offer i h e = rw (ne-eqb (service-of b) 0 other, lt-leb i 15 (omega arith), and-false (leb 14 i), and-false (ltb (service-of b) 4), e)
 
-  unused : (i : ℕ) → 16 ≤ i → between 32 71 i ≡ false → (call-of b ≡ 3) ⊎ (call-of b ≡ 4) → used (call-of b) (service-of b) i ≡ false
-  unfolding used
-  unused i h f (inl e) = rw (e, lt-leb i 12 (omega arith), unused-by-offer i h f) (or-false (leb 6 i && false) ∙ and-false (leb 6 i))
-  unused i h f (inr e) = rw (e, lt-leb i 12 (omega arith), unused-by-offer i h f) (or-false (leb 6 i && false) ∙ and-false (leb 6 i))
+  unused : (i : ℕ) → 16 ≤ i → between 32 71 i ≡ false → used (call-of b) (service-of b) i ≡ false
+  unused i h f =
+      of-either-offer (call-of b) (service-of b) i call
+      ∙ rw (lt-leb i 12 (omega arith), unused-by-offer i h f) (or-false (leb 6 i && false) ∙ and-false (leb 6 i))
 
   byte-zero : (i : ℕ) → 16 ≤ i → between 32 71 i ≡ false → byte b i ≡ 0
   unfolding has-stray
   byte-zero i h f =
       let j : 6 + (i - 6) ≡ i = omega arith in
       sym (getD-drop 6 b (i - 6) 0 ∙ ap (byte b) j)
-      ∙ unused-zero (used (call-of b) (service-of b)) 6 (drop 6 b) none-stray (i - 6) (ap (used (call-of b) (service-of b)) j ∙ unused i h f call)
+      ∙ unused-zero (used (call-of b) (service-of b)) 6 (drop 6 b) none-stray (i - 6) (ap (used (call-of b) (service-of b)) j ∙ unused i h f)
 
   word-zero : (i : ℕ) → 16 ≤ i → ((j : ℕ) → j < 4 → between 32 71 (i + j) ≡ false) → word-at b i ≡ pos 0
   unfolding word-at signed

@@ -13,10 +13,10 @@ use Rattle.offer_rules.specs.Time.{IsNext}
 use Rattle.offer_rules.specs.Offer.{pairs, Held, all-blank}
 use Rattle.book_rules.specs.Record.{call-of, facility-of, service-of, period-word, offer-in, record-number}
 use Rattle.book_rules.specs.Words.{is-book, opening-number, opening-words}
-use Rattle.book_rules.specs.Force.{View, InForce, in-force, pairs-of, Answer, plain}
+use Rattle.book_rules.specs.Force.{View, pairs-of, Answer, plain}
 use Rattle.book_rules.specs.Refusals.{judge, reply}
 use Rattle.book_rules.specs.Book.{facilities-in, services-in, now-in, book-view, book-accept, book-answer, book-after, book-answers, book-run}
-use Rattle.book_rules.specs.ByNumber.{own-held, own-gate, applies}
+use Rattle.book_rules.specs.ByNumber.{own-force, own-held, own-gate, applies}
 use Rattle.book_rules.specs.ListMachine.{list-answers}
 
 -- Number 0.
@@ -40,15 +40,11 @@ unfoldable pub LowestThatApplies : Type 0
 LowestThatApplies = (w : List ℤ) (b : List ℕ) → is-accepted w b ≡ false
     → (applies w b (book-answer w b .number) ≡ true) × ((n : ℕ) → n < book-answer w b .number → applies w b n ≡ false)
 
--- What is in force in some words for a record's facility, service and period.
-abbrev pub force-for : List ℤ → List ℕ → InForce
-force-for w b = in-force (book-view w) (facility-of b) (service-of b) (toNat (period-word b))
-
 -- "The gate compares old with the offer that will stand afterwards": on every words and every variation that pass 1 to 4, the condition of 17 is
 -- the gate's, old being the offer in force before the call and new the one in force in the words that it leaves once it is filed.
 unfoldable pub StandsAfterwards : Type 0
 StandsAfterwards = (w : List ℤ) (b : List ℕ) → is-book w ≡ true → record-number b (facilities-in w) (services-in w) ≡ 0 → call-of b ≡ 4
-    → applies w b 17 ≡ own-gate (book-view w) b (toNat (period-word b)) (pairs-of (force-for w b)) (pairs-of (force-for (book-accept w b) b))
+    → applies w b 17 ≡ own-gate (book-view w) b (toNat (period-word b)) (pairs-of (own-force (book-view w) b)) (pairs-of (own-force (book-view (book-accept w b)) b))
 
 -- "P is the slot's next period not yet begun; old is the held standing offer, new the one filed" (document 02): on every words and every standing offer for a slot 0 to 335,
 -- the condition of 17 is the same gate's at the one period p that is the slot's next, whatever variation is in force for p. "A first one always passes the gate."
@@ -68,7 +64,7 @@ filed-offer w b = record { offer = offer-in b; minute = pos (now-in w) }
 -- Of a variation of blanks nothing is held.
 unfoldable pub HeldAsFiled : Type 0
 HeldAsFiled = (w : List ℤ) (b : List ℕ) → is-accepted w b ≡ true
-    → (call-of b ≡ 3 → book-view (book-after w b) .standing (facility-of b) (service-of b) (toNat (period-word b)) ≡ some (filed-offer w b))
+    → (call-of b ≡ 3 → own-held (book-view (book-after w b)) b ≡ some (filed-offer w b))
     × (call-of b ≡ 4 → book-view (book-after w b) .variation (facility-of b) (service-of b) (toNat (period-word b)) ≡ cond (all-blank (pairs (offer-in b))) none (some (filed-offer w b)))
 
 -- What a view shows, with every held minute 0.
