@@ -66,8 +66,8 @@ pub fn call(book: &mut [i32], bytes: &[u8]) -> Answer
     bilzhaan_call(book, bytes)
 }
 
-// 1.5.0, for C to hold against its header's.
-const LIBRARY_VERSION: u32 = 10500;
+// 1.6.0, for C to hold against its header's.
+const LIBRARY_VERSION: u32 = 10600;
 
 #[no_mangle]
 pub extern "C" fn bilzhaan_version() -> u32

@@ -1,4 +1,4 @@
-// Document 01, "Who draws which number".
+// Document 01, "Who draws which number", and document 02's number beside them.
 
 // "fewer than 64 words, mark or version wrong, F not 1 to 64, S not 1 or 5, fewer than N words, or clock outside 0 to 1,000,000,000"
 pub const BOOK_UNUSABLE: u8 = 1;
@@ -59,3 +59,6 @@ pub const NOTHING_IN_FORCE: u8 = 19;
 
 // "opening: .."
 pub const OPENING_REFUSED: u8 = 20;
+
+// "the date doesn't exist, the year is outside 2024–2099, the period is outside 1–48, or P is below 0 or beyond the last date's"
+pub const DATE_REFUSED: u8 = 21;

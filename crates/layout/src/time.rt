@@ -23,3 +23,10 @@ pub const LAST_MINUTE: i32 = 1000000000;
 
 // "not 0 ≤ A ≤ B ≤ 40,000,000"
 pub const LAST_NOTICE_PERIOD: i32 = 40000000;
+
+// "for 2024 to 2099", and the last period of 31 December 2099
+pub const FIRST_YEAR: u64 = 2024;
+
+pub const LAST_YEAR: u64 = 2099;
+
+pub const LAST_DATED_PERIOD: i32 = 1332431;

@@ -1,0 +1,3 @@
+-- Laws that the proofs of the code cite.
+pub mod Months
+pub mod Years

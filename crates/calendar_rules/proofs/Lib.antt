@@ -1,0 +1,7 @@
+-- RoundTrips has the theorems on dates, Claimed those of specs/Claims, Cases those of specs/Cases; the others are what they rest on.
+pub mod Everywhere
+pub mod Begun
+pub mod Lengths
+pub mod RoundTrips
+pub mod Claimed
+pub mod Cases

@@ -1,0 +1,1 @@
+// No code: dates and periods (refusal 21) as definitions, and the theorems about them.
