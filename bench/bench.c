@@ -1,7 +1,7 @@
-/* Times each kind of call on the library and on the plain book, F 64 and S 5, in one run; a benchmark, not a test.
+/* Times each kind of call on the library and on the plain book and calendar, F 64 and S 5: a benchmark, not a test.
  * Prints tab-separated lines: kind, where, who, calls, nanoseconds a call with the loop around it. Argument: rounds
  * (default 15), or 'instructions' for one short round, of which callgrind counts measured_calls.
- * The plain book is linked once for each way in which it is compiled, under names of its own: see run.sh. */
+ * The plain ones are linked once for each way in which they are compiled, under names of their own: see run.sh. */
 #define _DEFAULT_SOURCE
 #include "bilzhaan.h"
 #include "../tests/c/records.h"
@@ -17,7 +17,8 @@ enum {
     F = 64, S = 5, NOW = 100000, /* minute 100,000: period 3333 is on */
     EARLIER = NOW - BILZHAAN_SCHEDULE_CUTOFF_MINUTES, /* what is filed then isn't fresh */
     FIRST_PERIOD = NOW / 30 + 1, OPEN_PERIOD = FIRST_PERIOD + 3, HORIZON = 48 * (NOW / 1440 + 7),
-    READ_PERIOD = OPEN_PERIOD + 240, TOTAL_KEYS = 64, MOST_KEYS = 2048
+    READ_PERIOD = OPEN_PERIOD + 240, TOTAL_KEYS = 64, MOST_KEYS = 2048,
+    FIRST_YEAR = 2024, YEARS = 76, DATED_PERIODS = 48 * 27759
 };
 
 _Static_assert(READ_PERIOD + TOTAL_KEYS <= HORIZON, "every period that is read is inside the horizon");
@@ -30,11 +31,15 @@ typedef __typeof__(bilzhaan_record_test) record_test_function;
 typedef __typeof__(bilzhaan_open) open_function;
 typedef __typeof__(bilzhaan_call) call_function;
 typedef __typeof__(bilzhaan_next_period) next_period_function;
+typedef __typeof__(bilzhaan_period_of) period_of_function;
+typedef __typeof__(bilzhaan_date_of) date_of_function;
 
 record_test_function gcc_o2_record_test, gcc_o3_record_test, clang_o2_record_test;
 open_function gcc_o2_open, gcc_o3_open, clang_o2_open;
 call_function gcc_o2_call, gcc_o3_call, clang_o2_call;
 next_period_function gcc_o2_next_period, gcc_o3_next_period, clang_o2_next_period;
+period_of_function gcc_o2_period_of, gcc_o3_period_of, clang_o2_period_of;
+date_of_function gcc_o2_date_of, gcc_o3_date_of, clang_o2_date_of;
 
 struct subject {
     const char *name;
@@ -42,6 +47,8 @@ struct subject {
     open_function *open;
     call_function *call;
     next_period_function *next_period;
+    period_of_function *period_of;
+    date_of_function *date_of;
     int32_t *words;
     int32_t *links; /* a book of as many facilities, all of them links */
     double best; /* nanoseconds a call */
@@ -58,7 +65,7 @@ static struct bilzhaan_answer no_call(int32_t *words, size_t count, const uint8_
     return a;
 }
 
-static uint32_t no_test(const uint8_t *bytes, size_t count, int32_t facilities, int32_t services)
+static uint32_t no_record_test(const uint8_t *bytes, size_t count, int32_t facilities, int32_t services)
 {
     (void)count, (void)facilities, (void)services;
     return bytes[0] == 'S' ? 0 : 2;
@@ -76,20 +83,37 @@ static uint32_t no_next_period(uint32_t minute, uint32_t slot)
     return minute;
 }
 
+static struct bilzhaan_period no_period_of(int32_t year, int32_t month, int32_t day, int32_t period)
+{
+    struct bilzhaan_period p;
+    (void)year, (void)month, (void)day, (void)period;
+    memset(&p, 0, sizeof p); /* assigned field by field it would wait for its stores, see plain_calendar.c */
+    return p;
+}
+
+static struct bilzhaan_date no_date_of(int32_t period)
+{
+    (void)period;
+    return (struct bilzhaan_date){0, 0, 0, 0, 0, 0};
+}
+
+#define SUBJECT(name, its) \
+    {name, its##_record_test, its##_open, its##_call, its##_next_period, its##_period_of, its##_date_of, NULL, NULL, 0}
+
 static struct subject subjects[] = {
-    {"library", bilzhaan_record_test, bilzhaan_open, bilzhaan_call, bilzhaan_next_period, NULL, NULL, 0},
-    {"gcc -O2", gcc_o2_record_test, gcc_o2_open, gcc_o2_call, gcc_o2_next_period, NULL, NULL, 0},
-    {"gcc -O3", gcc_o3_record_test, gcc_o3_open, gcc_o3_call, gcc_o3_next_period, NULL, NULL, 0},
+    SUBJECT("library", bilzhaan),
+    SUBJECT("gcc -O2", gcc_o2),
+    SUBJECT("gcc -O3", gcc_o3),
 #ifdef WITH_CLANG
-    {"clang -O2", clang_o2_record_test, clang_o2_open, clang_o2_call, clang_o2_next_period, NULL, NULL, 0},
+    SUBJECT("clang -O2", clang_o2),
 #endif
-    {"loop", no_test, no_open, no_call, no_next_period, NULL, NULL, 0},
+    SUBJECT("loop", no),
 };
 enum { SUBJECTS = sizeof subjects / sizeof *subjects, BOOKS = SUBJECTS - 1 };
 
 /* ---- kinds of calls ---- */
 
-enum measured { CALL, RECORD_TEST, OPENING, NEXT_PERIOD };
+enum measured { CALL, RECORD_TEST, OPENING, NEXT_PERIOD, PERIOD_OF, DATE_OF };
 
 struct kind {
     const char *name;
@@ -362,13 +386,51 @@ static struct record last_byte_for(struct key k, int step)
     return r;
 }
 
-/* No record: a minute and a slot in its first bytes, for the function that takes these. */
+/* No record: numbers in its first bytes, for the functions that take these. */
+static struct record numbers_of(int32_t first, int32_t second, int32_t third, int32_t fourth)
+{
+    int32_t numbers[4] = {first, second, third, fourth};
+    struct record r = {{0}};
+    memcpy(r.bytes, numbers, sizeof numbers);
+    return r;
+}
+
+static inline int32_t number_at(const uint8_t *bytes, int i)
+{
+    int32_t number;
+    memcpy(&number, bytes + 4 * i, sizeof number);
+    return number;
+}
+
 static struct record next_period_for(struct key k, int step)
 {
-    uint32_t asked[2] = {(uint32_t)below(BILZHAAN_CLOCK_LAST + 1), (uint32_t)below(BILZHAAN_WEEK_SLOTS)};
-    struct record r = look_up_for(k, step);
-    memcpy(r.bytes, asked, sizeof asked);
-    return r;
+    (void)k, (void)step;
+    return numbers_of(below(BILZHAAN_CLOCK_LAST + 1), below(BILZHAAN_WEEK_SLOTS), 0, 0);
+}
+
+static struct record period_for(struct key k, int step)
+{
+    (void)k, (void)step;
+    return numbers_of(below(DATED_PERIODS), 0, 0, 0);
+}
+
+static struct record past_period_for(struct key k, int step)
+{
+    (void)k, (void)step;
+    return numbers_of(DATED_PERIODS + below(DATED_PERIODS), 0, 0, 0);
+}
+
+static struct record date_for(struct key k, int step)
+{
+    (void)k, (void)step;
+    struct bilzhaan_date d = gcc_o2_date_of(below(DATED_PERIODS));
+    return numbers_of(d.year, d.month, d.day, d.period);
+}
+
+static struct record no_date_for(struct key k, int step)
+{
+    (void)k, (void)step;
+    return numbers_of(FIRST_YEAR + below(YEARS), 2, 30, 1 + below(48));
 }
 
 static void make_kinds(void)
@@ -453,6 +515,10 @@ static void make_kinds(void)
     add_calls("record test, look-up", 0, energy_keys, keys, 1, look_up_for)->what = RECORD_TEST;
     add_calls("record test, unused byte", 4, energy_keys, keys, 1, last_byte_for)->what = RECORD_TEST;
     add_calls("next period", 0, energy_keys, keys, 1, next_period_for)->what = NEXT_PERIOD;
+    add_calls("date and period to P", 0, energy_keys, keys, 1, date_for)->what = PERIOD_OF;
+    add_calls("date and period to P, no such date", 21, energy_keys, keys, 1, no_date_for)->what = PERIOD_OF;
+    add_calls("P to date and period", 0, energy_keys, keys, 1, period_for)->what = DATE_OF;
+    add_calls("P to date and period, P past the last date", 21, energy_keys, keys, 1, past_period_for)->what = DATE_OF;
 }
 
 /* ---- measuring ---- */
@@ -463,6 +529,11 @@ struct run {
     const struct record *records;
     size_t count, at, calls; /* `at` goes on from run to run, so that offers differ from the held ones */
 };
+
+static inline uint64_t spoiled(uint32_t number, const struct kind *kind)
+{
+    return (uint64_t)(number != kind->expected) << 40;
+}
 
 /* Calls that are counted or timed. Returns a sum over the answers; a number that isn't expected spoils it. */
 __attribute__((noinline)) uint64_t measured_calls(struct run *run)
@@ -476,14 +547,19 @@ __attribute__((noinline)) uint64_t measured_calls(struct run *run)
         const uint8_t *bytes = run->records[at].bytes;
         if (kind->what == CALL) {
             struct bilzhaan_answer a = who->call(book, words, bytes, kind->length);
-            seen += (uint64_t)a.sum + (uint64_t)a.words[0] + ((uint64_t)(a.number != kind->expected) << 40);
+            seen += (uint64_t)a.sum + (uint64_t)a.words[0] + spoiled(a.number, kind);
         } else if (kind->what == RECORD_TEST) {
-            uint32_t number = who->record_test(bytes, kind->length, F, S);
-            seen += (uint64_t)(number != kind->expected) << 40;
+            seen += spoiled(who->record_test(bytes, kind->length, F, S), kind);
         } else if (kind->what == NEXT_PERIOD) {
-            uint32_t asked[2];
-            memcpy(asked, bytes, sizeof asked);
-            seen += who->next_period(asked[0], asked[1]);
+            seen += who->next_period((uint32_t)number_at(bytes, 0), (uint32_t)number_at(bytes, 1));
+        } else if (kind->what == PERIOD_OF) {
+            struct bilzhaan_period p
+                = who->period_of(number_at(bytes, 0), number_at(bytes, 1), number_at(bytes, 2), number_at(bytes, 3));
+            seen += (uint64_t)p.period + (uint64_t)p.weekday + spoiled(p.number, kind);
+        } else if (kind->what == DATE_OF) {
+            struct bilzhaan_date d = who->date_of(number_at(bytes, 0));
+            seen += (uint64_t)d.year + (uint64_t)d.month + (uint64_t)d.day + (uint64_t)d.period + (uint64_t)d.weekday
+                + spoiled(d.number, kind);
         } else {
             seen += (uint64_t)who->open(book, words, kind->facilities, kind->services, limits) << 40;
         }

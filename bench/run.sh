@@ -1,6 +1,6 @@
 #!/usr/bin/env bash
-# Builds into target/bench/ and measures the library against bench/plain_book.c, compiled by gcc -O2, gcc -O3 and clang -O2, as two
-# Markdown tables: nanoseconds and instructions. Arguments: the static library, processes (31), rounds (40).
+# Builds into target/bench/ and measures the library against bench/plain_book.c and plain_calendar.c, compiled by gcc -O2, gcc -O3 and
+# clang -O2, as two Markdown tables: nanoseconds and instructions. Arguments: the static library, processes (31), rounds (40).
 # A process's nanoseconds are the least of its rounds, and a figure is the median of the processes: where a process's stack and books
 # lie changes some calls by a tenth. Every figure includes the loop around the call, and a ratio is that of the two figures shown.
 set -euo pipefail
@@ -20,12 +20,16 @@ out=target/bench
 rm -rf "$out"
 mkdir -p "$out"
 
-# The plain book under the names NAME_call, NAME_open, NAME_record_test and NAME_next_period.
+# The plain book and the plain calendar, each plain_FUNCTION under the name NAME_FUNCTION.
 plain() { # NAME COMPILER...
-    local name=$1
+    local name=$1 function file named=()
     shift
-    "$@" -std=c11 -Wall -Wextra -Werror -pedantic -Iinclude -Dplain_call="${name}_call" -Dplain_open="${name}_open" \
-        -Dplain_record_test="${name}_record_test" -Dplain_next_period="${name}_next_period" -c bench/plain_book.c -o "$out/$name.o"
+    for function in call open record_test next_period period_of date_of; do
+        named+=("-Dplain_$function=${name}_$function")
+    done
+    for file in plain_book plain_calendar; do
+        "$@" -std=c11 -Wall -Wextra -Werror -pedantic -Iinclude "${named[@]}" -c "bench/$file.c" -o "$out/${name}_$file.o"
+    done
 }
 plain gcc_o2 gcc -O2
 plain gcc_o3 gcc -O3
@@ -104,8 +108,10 @@ awk -F'\t' '
             for (j = 1; j <= subjects; j++) figures[j] = median(order[i], subject[j])
             row(order[i], figures, "%.1f")
         }
-        printf "\nThe loop with a call that does nothing takes %.1f ns, with a record test %.1f ns, with a next period %.1f ns.\n", \
-            median("1 clock" FS "hot", "loop"), median("record test, look-up" FS "hot", "loop"), median("next period" FS "hot", "loop")
+        printf "\nThe loop with a call that does nothing takes %.1f ns, with a record test %.1f ns, with a next period %.1f ns, " \
+            "with a date to P %.1f ns, with a P to its date %.1f ns.\n", \
+            median("1 clock" FS "hot", "loop"), median("record test, look-up" FS "hot", "loop"), median("next period" FS "hot", "loop"), \
+            median("date and period to P" FS "hot", "loop"), median("P to date and period" FS "hot", "loop")
         if (!counted) exit
         head("Instructions a call, by callgrind, the loop taken off:")
         for (i = 1; i <= rows; i++) {

@@ -1,4 +1,5 @@
-/* Bilzhaan for C99 and C++11: a half-hour offer book kept in words that the caller lends (documents 01, 02).
+/* Bilzhaan for C99 and C++11: a half-hour offer book kept in words that the caller lends (documents 01, 02), and its
+ * periods as dates.
  * The functions, their numbers and what they ask of the caller. Link with libbilzhaan.a, which is for x86-64 Linux.
  * bilzhaan_record.h has inline functions that write records, read answers and give each number's text. */
 #ifndef BILZHAAN_H
@@ -16,7 +17,7 @@
  * - It always returns. It reads the words and bytes that it is lent and no others, and writes only the words.
  * - Its work is bounded: by the pairs of an offer for filings and look-ups, by the facilities for a total, by the
  *   112 bytes for the record test, by BILZHAAN_BOOK_WORDS for the opening; a slot's next period is a division and a
- *   remainder. Never by megawatts, minutes or periods.
+ *   remainder, a date or its period some divisions by constants. Never by megawatts, minutes, periods or years.
  * - Whatever the words and bytes hold, the answer is the one that the documents give. A refused call returns zeros
  *   beside its number and leaves every word as it was; a refused opening leaves every word as it was.
  * - Look-ups (8), totals (9) and whatever is refused store nothing: for them the words may lie in read-only memory.
@@ -33,8 +34,8 @@
 
 /* ---- versions and sizes ---- */
 
-/* This header's version, 1.5.0: 10,000 times the first number, 100 times the second, and the third. */
-#define BILZHAAN_VERSION 10500
+/* This header's version, 1.6.0: 10,000 times the first number, 100 times the second, and the third. */
+#define BILZHAAN_VERSION 10600
 
 /* A book of another version than BILZHAAN_BOOK_VERSION, head word 1, is refused with 1. Nothing converts a stored book of
  * version 1, whose cells hold no minute: its host opens a new book and files again, from its own records, what was accepted,
@@ -51,10 +52,14 @@ enum {
     BILZHAAN_PAIRS_OTHER = 5,
     BILZHAAN_WEEK_SLOTS = 336,     /* the slot of period P is P mod 336 */
     BILZHAAN_PERIOD_MINUTES = 30,  /* period P starts at minute 30 * P */
+    BILZHAAN_DAY_PERIODS = 48,
     BILZHAAN_GATE_MINUTES = 65,    /* an offer with 65 minutes or more to go needs no reason */
     BILZHAAN_SCHEDULE_CUTOFF_MINUTES = 5, /* an offer accepted less than 5 minutes ago is fresh */
     BILZHAAN_CLOCK_LAST = 1000000000,
     BILZHAAN_NOTICE_PERIOD_LAST = 40000000,
+    BILZHAAN_YEAR_FIRST = 2024,    /* dates are of 2024 to 2099; day 0 is 1 January 2024 */
+    BILZHAAN_YEAR_LAST = 2099,
+    BILZHAAN_DATED_PERIOD_LAST = 1332431, /* the last of 31 December 2099 */
     BILZHAAN_LIMIT_LARGEST = 10000000 /* a price limit is within -10,000,000 to 10,000,000 */
 };
 
@@ -174,7 +179,9 @@ enum {
     /* the reader */
     BILZHAAN_NOTHING_IN_FORCE = 19,
     /* the host program, from the opening and the record test */
-    BILZHAAN_OPENING_REFUSED = 20      /* F, S, words too few, or limits */
+    BILZHAAN_OPENING_REFUSED = 20,     /* F, S, words too few, or limits */
+    /* the coordinator, from a date or its period alone */
+    BILZHAAN_DATE_REFUSED = 21         /* no date of 2024 to 2099, no period of 1 to 48, or P outside theirs */
 };
 
 /* An answer. Beside a refusal, and for accepted calls 1 to 7, words and sum are zero. A look-up's sum is its ten
@@ -211,9 +218,24 @@ enum {
     BILZHAAN_FRESH_VARIATION_IN_FORCE = 4
 };
 
+/* A date's period, and a period's date, as below. Beside 21 every other field is 0. */
+struct bilzhaan_period {
+    uint32_t number;
+    int32_t period;  /* P */
+    int32_t weekday; /* 0 Monday to 6 Sunday */
+};
+
+struct bilzhaan_date {
+    uint32_t number;
+    int32_t year, month, day; /* months and days from 1 */
+    int32_t period;           /* 1 to 48 */
+    int32_t weekday;
+};
+
 /* Another layout than the library's doesn't compile. */
 typedef char bilzhaan_layout_of_x86_64[sizeof(size_t) == 8 && sizeof(struct bilzhaan_answer) == 112
-                                       && offsetof(struct bilzhaan_answer, sum) == 104 ? 1 : -1];
+                                       && offsetof(struct bilzhaan_answer, sum) == 104
+                                       && sizeof(struct bilzhaan_period) == 12 && sizeof(struct bilzhaan_date) == 24 ? 1 : -1];
 
 #ifdef __cplusplus
 extern "C" {
@@ -240,6 +262,15 @@ uint32_t bilzhaan_open(int32_t *words, size_t count, int32_t facilities, int32_t
  * the horizon (10).
  * It is worked out by remainders alone, without a branch. */
 uint32_t bilzhaan_next_period(uint32_t minute, uint32_t slot);
+
+/* The period P of a date and of its period 1 to 48, and its weekday; and the date, period 1 to 48 and weekday of P: 0, or 21
+ * where the date doesn't exist, the year is outside 2024 to 2099, the period outside 1 to 48, or P below 0 or above
+ * BILZHAAN_DATED_PERIOD_LAST. Each is the other's way back. P is 48 times the day number plus the period less 1; day 0 is
+ * 1 January 2024, a Monday, and the weekday is the day number mod 7. The slot of a standing offer is P mod 336.
+ * No book is asked, so no clock and no horizon: a call may still refuse the P of a date with 10. Dates are those of the
+ * plant's own clock, whatever its time zone. The book's own periods go on past 2099, and have no dates there. */
+struct bilzhaan_period bilzhaan_period_of(int32_t year, int32_t month, int32_t day, int32_t period);
+struct bilzhaan_date bilzhaan_date_of(int32_t period);
 
 /* One of the nine calls on an opened book, `length` bytes of a record: the number, the 24 words and the sum. */
 struct bilzhaan_answer bilzhaan_call(int32_t *words, size_t count, const uint8_t *bytes, size_t length);

@@ -264,6 +264,9 @@ static inline const char *bilzhaan_number_text(uint32_t number)
         return "Opening: F not 1 to 64, S not 1 or 5, too few words, a limit beyond +/-100,000.00, not lowest <= 0 "
                "<= highest energy price, or a highest price of services 1 to 4 below 0. The record test gives it for "
                "F or S.";
+    case BILZHAAN_DATE_REFUSED:
+        return "No such date or period: the date does not exist, its year is outside 2024 to 2099, the period is outside "
+               "1 to 48, or P is below 0 or above 1,332,431.";
     default:
         return "No number of this library.";
     }

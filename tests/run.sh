@@ -1,6 +1,6 @@
 #!/usr/bin/env bash
 # Builds into target/ctest/ and runs the tests that call the library from C and C++: headers and archive, machine code, an
-# installed copy, by hand, vectors, random lists. Arguments: the static library, seconds of random lists (20), seed (1).
+# installed copy, by hand, dates, vectors, random lists. Arguments: the static library, seconds of random lists (20), seed (1).
 # Last line: 'N passed, M failed'.
 set -euo pipefail
 
@@ -66,8 +66,8 @@ trap 'kill "$random" 2>/dev/null || :' EXIT
 symbols() { nm "$library" | awk "NF >= 2 { kind = \$(NF - 1); name = \$NF; if ($1) print name }"; }
 functions() {
     local found
-    found=$(symbols 'kind == "T" && name ~ /^bilzhaan_(call|open|record_test|next_period|version|book_version)$/') || return 1
-    [ "$(echo "$found" | wc -l)" -eq 6 ]
+    found=$(symbols 'kind == "T" && name ~ /^bilzhaan_(call|open|record_test|next_period|period_of|date_of|version|book_version)$/') || return 1
+    [ "$(echo "$found" | wc -l)" -eq 8 ]
 }
 calls_nothing() {
     local found
@@ -92,8 +92,8 @@ refused_with() {
 texts_of_the_page() {
     awk -F' [|] ' '/^## / { on = $0 == "## The numbers" } on && /^[|] [0-9]+ [|]/ { print substr($1, 3) "\t" $3 }' \
         docs/REFUSALS.md | sed 's/≤/<=/g; s/≥/>=/g; s/·/*/g; s/±/+\/-/g' >"$out/texts_of_the_page.txt"
-    "$out/record_header_test" --texts | sed -n '2,21p' >"$out/texts.txt"
-    [ "$(wc -l <"$out/texts.txt")" -eq 20 ] && diff "$out/texts.txt" "$out/texts_of_the_page.txt"
+    "$out/record_header_test" --texts | sed -n '2,22p' >"$out/texts.txt"
+    [ "$(wc -l <"$out/texts.txt")" -eq 21 ] && diff "$out/texts.txt" "$out/texts_of_the_page.txt"
 }
 
 echo '#include "bilzhaan_record.h"' >"$out/include.c"
@@ -127,9 +127,13 @@ run tests/installed_test.sh "$library"
 
 $c11 -pthread tests/c/library_*.c tests/c/check.c "$library" -o "$out/library_test"
 $c11 tests/c/vectors_test.c tests/c/list_machine.c bench/plain_book.c "$library" -o "$out/vectors_test"
-$c11 tests/c/script*.c tests/c/listed_words.c tests/c/list_machine.c bench/plain_book.c "$library" -o "$out/scripts_test"
+$c11 tests/c/dates_test.c tests/c/counted_calendar.c bench/plain_calendar.c "$library" -o "$out/dates_test"
+$c11 tests/c/script*.c tests/c/listed_words.c tests/c/list_machine.c tests/c/counted_calendar.c bench/plain_*.c "$library" \
+    -o "$out/scripts_test"
 
 run "$out/library_test"
+python3 tests/datetime_days.py >"$out/days.txt"
+run "$out/dates_test" "$out/days.txt"
 run "$out/vectors_test" tests/vectors
 run "$out/scripts_test" --every-number tests/vectors/*.txt
 check "the scripts are those that make.py makes" python3 tests/vectors/make.py --check "$out/scripts_test"

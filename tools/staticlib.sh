@@ -1,6 +1,6 @@
 #!/usr/bin/env bash
-# Builds the static library for C, target/libbilzhaan.a, from the proved crates: the record test, the opening, the call
-# and a slot's next period.
+# Builds the static library for C, target/libbilzhaan.a, from the proved crates: the record test, the opening, the call,
+# a slot's next period, and dates.
 # include/bilzhaan.h is its header.
 set -euo pipefail
 cd "$(dirname "$0")/.."
@@ -12,7 +12,7 @@ done
 # An archive has the functions for C of the crate that it is built from, and of no other. One crate for all would do, but the call and
 # the record test would then share one copy of record_number, which costs every call 16 to 29 instructions.
 # rt checks each as a static library, over the proved libraries below it; nothing below is proved again.
-crates="record book opening periods"
+crates="record book opening periods calendar"
 parts=$(mktemp -d)
 trap 'rm -rf "$parts"' EXIT
 rt check $crates >"$parts/check" || { cat "$parts/check"; exit 1; }

@@ -171,6 +171,35 @@ static void times(void)
     EQUAL(number_of(notice_of(BILZHAAN_NOTICE_SHORTFALL, 0, BILZHAAN_NOTICE_PERIOD_LAST + 1)), BILZHAAN_NOTICE_REFUSED);
 }
 
+/* ---- dates: both ends of the calendar, and what lies beyond them ---- */
+
+static uint32_t dated(int32_t year, int32_t month, int32_t day, int32_t period)
+{
+    return bilzhaan_period_of(year, month, day, period).number;
+}
+
+static void dates(void)
+{
+    struct bilzhaan_period p = bilzhaan_period_of(BILZHAAN_YEAR_FIRST, 1, 2, 1);
+    EQUAL(p.number, BILZHAAN_ACCEPTED);
+    EQUAL(p.period, BILZHAAN_DAY_PERIODS);
+    EQUAL(p.weekday, 1);
+    EQUAL(dated(BILZHAAN_YEAR_FIRST - 1, 12, 31, BILZHAAN_DAY_PERIODS), BILZHAAN_DATE_REFUSED);
+    EQUAL(dated(BILZHAAN_YEAR_FIRST, 1, 1, BILZHAAN_DAY_PERIODS), BILZHAAN_ACCEPTED);
+    EQUAL(dated(BILZHAAN_YEAR_FIRST, 1, 1, BILZHAAN_DAY_PERIODS + 1), BILZHAAN_DATE_REFUSED);
+    EQUAL(bilzhaan_period_of(BILZHAAN_YEAR_LAST, 12, 31, BILZHAAN_DAY_PERIODS).period, BILZHAAN_DATED_PERIOD_LAST);
+    EQUAL(dated(BILZHAAN_YEAR_LAST + 1, 1, 1, 1), BILZHAAN_DATE_REFUSED);
+    struct bilzhaan_date d = bilzhaan_date_of(BILZHAAN_DATED_PERIOD_LAST);
+    EQUAL(d.number, BILZHAAN_ACCEPTED);
+    EQUAL(d.year, BILZHAAN_YEAR_LAST);
+    EQUAL(d.month, 12);
+    EQUAL(d.day, 31);
+    EQUAL(d.period, BILZHAAN_DAY_PERIODS);
+    EQUAL(d.weekday, 3);
+    EQUAL(bilzhaan_date_of(BILZHAAN_DATED_PERIOD_LAST + 1).number, BILZHAAN_DATE_REFUSED);
+    EQUAL(bilzhaan_date_of(0).year, BILZHAAN_YEAR_FIRST);
+}
+
 /* ---- where each field of a record starts ---- */
 
 static void places(void)
@@ -381,6 +410,7 @@ int main(void)
     sizes();
     limits();
     times();
+    dates();
     places();
     maxima();
     links();

@@ -1,4 +1,4 @@
-// The headers from C++, linked: a constant expression for a book's words, records written, an answer read, a slot's next period.
+// The headers from C++, linked: a constant expression for a book's words, records written, an answer read, a slot's next period, dates.
 #include "bilzhaan_record.h"
 
 #include <cstring>
@@ -40,5 +40,9 @@ int main()
         return 8;
     if (bilzhaan_next_period(119, 4) != 4 || bilzhaan_next_period(120, 4) != 340)
         return 9;
-    return std::strcmp(bilzhaan_number_text(answer.number), "Accepted.") == 0 ? 0 : 10;
+    const bilzhaan_period leap_day = bilzhaan_period_of(2024, 2, 29, 48);
+    const bilzhaan_date again = bilzhaan_date_of(leap_day.period);
+    if (leap_day.period != 2879 || leap_day.weekday != 3 || again.month != 2 || again.day != 29 || again.period != 48)
+        return 10;
+    return std::strcmp(bilzhaan_number_text(answer.number), "Accepted.") == 0 ? 0 : 11;
 }

@@ -3,6 +3,8 @@
 #include "script_operations.h"
 
 #include "../../bench/plain_book.h"
+#include "../../bench/plain_calendar.h"
+#include "counted_calendar.h"
 #include "listed_words.h"
 
 #include <inttypes.h>
@@ -57,13 +59,23 @@ void give_back(struct books *b)
 
 /* ---- the operations ---- */
 
+static const char not_a_word[] = "an argument is no number of 32 bits";
+
+/* All the line's arguments. */
+static bool read_words(const struct line *l, int32_t *words)
+{
+    for (size_t i = 0; i < l->count; i++)
+        if (!read_word(l->arguments[i], &words[i]))
+            return false;
+    return true;
+}
+
 /* open level F S l0 l1 l2 l3 l4 l5 past = number. Where F or S is no size of a book, N counts as 0. */
 static const char *open_books(struct books *b, const struct line *l, struct answers *a)
 {
     int32_t n[10];
-    for (int i = 0; i < 10; i++)
-        if (!read_word(l->arguments[i], &n[i]))
-            return "an argument is no number of 32 bits";
+    if (!read_words(l, n))
+        return not_a_word;
     if (n[0] < FIRST_LEVEL || n[0] > LEVEL)
         return "answers of that level don't hold of this library";
     bool good_sizes = n[1] >= 1 && n[1] <= 64 && (n[2] == 1 || n[2] == 5);
@@ -125,7 +137,7 @@ static const char *test_record(struct books *b, const struct line *l, struct ans
     size_t length;
     int32_t f, s;
     if (!read_word(l->arguments[1], &f) || !read_word(l->arguments[2], &s))
-        return "an argument is no number of 32 bits";
+        return not_a_word;
     if (!read_bytes(l->arguments[0], &bytes, &length))
         return "the record isn't hexadecimal";
     bool good_sizes = f >= 1 && f <= 64 && (s == 1 || s == 5);
@@ -142,15 +154,46 @@ static const char *test_record(struct books *b, const struct line *l, struct ans
 static const char *next_period(struct books *b, const struct line *l, struct answers *a)
 {
     (void)b;
-    int32_t minute, slot;
-    if (!read_word(l->arguments[0], &minute) || !read_word(l->arguments[1], &slot))
-        return "an argument is no number of 32 bits";
+    int32_t n[2];
+    if (!read_words(l, n))
+        return not_a_word;
+    int32_t minute = n[0], slot = n[1];
     if (minute < 0 || minute > BILZHAAN_CLOCK_LAST || slot < 0 || slot >= BILZHAAN_WEEK_SLOTS)
         return "no such minute or slot";
     int64_t periods[BOOKS] = {bilzhaan_next_period((uint32_t)minute, (uint32_t)slot),
                               plain_next_period((uint32_t)minute, (uint32_t)slot), list_machine_next_period(minute, slot)};
     for (int i = 0; i < BOOKS; i++)
         say(a, i, "%" PRId64, periods[i]);
+    return NULL;
+}
+
+/* date year month day period = number P weekday */
+static const char *period_of_date(struct books *b, const struct line *l, struct answers *a)
+{
+    (void)b;
+    int32_t n[4];
+    if (!read_words(l, n))
+        return not_a_word;
+    struct bilzhaan_period periods[BOOKS] = {bilzhaan_period_of(n[0], n[1], n[2], n[3]), plain_period_of(n[0], n[1], n[2], n[3]),
+                                             counted_period_of(n[0], n[1], n[2], n[3])};
+    for (int i = 0; i < BOOKS; i++)
+        say(a, i, "%" PRIu32 " %" PRId32 " %" PRId32, periods[i].number, periods[i].period, periods[i].weekday);
+    a->number = periods[LIBRARY].number;
+    return NULL;
+}
+
+/* period P = number year month day period weekday */
+static const char *date_of_period(struct books *b, const struct line *l, struct answers *a)
+{
+    (void)b;
+    int32_t p;
+    if (!read_words(l, &p))
+        return not_a_word;
+    struct bilzhaan_date dates[BOOKS] = {bilzhaan_date_of(p), plain_date_of(p), counted_date_of(p)};
+    for (int i = 0; i < BOOKS; i++)
+        say(a, i, "%" PRIu32 " %" PRId32 " %" PRId32 " %" PRId32 " %" PRId32 " %" PRId32, dates[i].number, dates[i].year,
+            dates[i].month, dates[i].day, dates[i].period, dates[i].weekday);
+    a->number = dates[LIBRARY].number;
     return NULL;
 }
 
@@ -162,7 +205,7 @@ static const char *write_words(struct books *b, const struct line *l, struct ans
     for (size_t i = 0; i < l->count; i += 2) {
         int32_t at, value;
         if (!read_word(l->arguments[i], &at) || !read_word(l->arguments[i + 1], &value))
-            return "an argument is no number of 32 bits";
+            return not_a_word;
         if (at < 0 || (size_t)at >= b->lent)
             return "no such word is lent";
         b->library[at] = b->plain[at] = value;
@@ -194,6 +237,8 @@ static const struct {
     {"call", 1, 1, call_books},
     {"test", 3, 3, test_record},
     {"next", 2, 2, next_period},
+    {"date", 4, 4, period_of_date},
+    {"period", 1, 1, date_of_period},
     {"write", 2, SIZE_MAX, write_words},
     {"words", 0, 0, sum_words},
 };

@@ -1,5 +1,6 @@
 /* The operations of the text form on three books at once: the library's words, the plain book's, and the list machine
- * for as long as no `write` has changed the words. The operations are rows of the table in script_operations.c. */
+ * for as long as no `write` has changed the words. Dates have no book: for them the plain calendar stands beside the plain
+ * book, and the counted one beside the list machine. The operations are rows of the table in script_operations.c. */
 #ifndef BILZHAAN_TESTS_SCRIPT_OPERATIONS_H
 #define BILZHAAN_TESTS_SCRIPT_OPERATIONS_H
 
@@ -7,7 +8,7 @@
 #include "script.h"
 
 enum { LIBRARY, PLAIN_BOOK, LIST_MACHINE, BOOKS };
-enum { FIRST_LEVEL = 5, LEVEL = 5, GUARD = 8, CANARY = 0x5A5A5A5A, ANSWER_ROOM = 1 << 14 }; /* answers of these levels hold */
+enum { FIRST_LEVEL = 5, LEVEL = 6, GUARD = 8, CANARY = 0x5A5A5A5A, ANSWER_ROOM = 1 << 14 }; /* answers of these levels hold */
 
 /* A list's words, lent to the library and to the plain book, with GUARD canaries before and after each. */
 struct books {

@@ -7,8 +7,9 @@ use lib.Dec.{eqb, ltb}
 use lib.IntN.{ℤ, pos, negsuc}
 use borrow.Author.Tests.{eq-eqb, ne-eqb, ltb-false, le-ltb}
 use Rattle.offer_rules.specs.Numbers.{toNat, between}
+use Rattle.offer_rules.specs.Time.{periods-a-day}
 use Rattle.offer_rules.proofs.Drawn.{and-left, and-right, and-false, or-right, or-true}
-use Rattle.calendar_rules.specs.Calendar.{first-year, periods-a-day, divides, is-leap, month-days, days-before, days-of-years, date-exists, day-number, period-of-date, weekday-of, last-period, date-of-day}
+use Rattle.calendar_rules.specs.Calendar.{first-year, divides, is-leap, month-days, days-before, days-of-years, date-exists, day-number, period-of-date, weekday-of, last-period, date-of-day}
 use Rattle.calendar_rules.specs.Answers.{PeriodAnswer, DateAnswer, is-date-and-period, no-period, period-found, period-for, period-answer, is-outside-calendar, no-date, date-found, date-answer}
 use Rattle.calendar_rules.specs.Claims.{Gregorian, DayByDay, LastDay, ThereAndBack, BackAndThere, NoTwoAlike, ExactlyTheDates, ExactlyThePeriods, ElseZeros, WeekdayOfDate, WeekdayOfPeriod, SameTime}
 use Rattle.calendar_rules.proofs.Lengths.{month-more, year-more}
@@ -48,6 +49,7 @@ unfolding day-number
 day-by-day =
     record {
       day-zero = day-zero-is;
+      a-monday = ap weekday-of day-zero-is;
       in-month = λ y m d h. omega arith;
       next-month = λ y m h. omega (arith, month-more-1 (is-leap y) m);
       next-year = λ y h. next y h;

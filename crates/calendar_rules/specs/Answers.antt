@@ -3,7 +3,8 @@ use mathlib.Core.Bool.{Bool, cond, _&&_}
 use Prim.Native.Nat.{ℕ}
 use lib.IntN.{ℤ, pos}
 use Rattle.offer_rules.specs.Numbers.{toNat, between, beyond}
-use Rattle.calendar_rules.specs.Calendar.{periods-a-day, date-exists, day-number, period-of-date, weekday-of, last-period, day-of-period, period-in-day, Date, date-of-day}
+use Rattle.offer_rules.specs.Time.{periods-a-day}
+use Rattle.calendar_rules.specs.Calendar.{date-exists, day-number, period-of-date, weekday-of, last-period, day-of-period, period-in-day, Date, date-of-day}
 
 -- ---- year, month, day and period into P
 

@@ -6,6 +6,7 @@ use Prim.Native.Nat.{ℕ, zero, suc, _+_, _*_, _-_, _/_, _%_}
 use lib.Dec.{eqb, leb}
 use lib.ListN.{getD}
 use Rattle.offer_rules.specs.Numbers.{between}
+use Rattle.offer_rules.specs.Time.{periods-a-day}
 
 -- "for 2024 to 2099"
 abbrev pub first-year : ℕ
@@ -13,10 +14,6 @@ first-year = 2024
 
 abbrev pub last-year : ℕ
 last-year = 2099
-
--- "periods 1 to 48"
-abbrev pub periods-a-day : ℕ
-periods-a-day = 48
 
 -- ---- "the Gregorian rule"
 

@@ -5,8 +5,8 @@ use mathlib.Core.Bool.{true, false}
 use Prim.Native.Nat.{ℕ, _+_, _*_, _-_, _%_, _≤_}
 use lib.IntN.{ℤ, pos}
 use Rattle.offer_rules.specs.Numbers.{toNat, between}
-use Rattle.offer_rules.specs.Time.{start-of, day-of, slot-of}
-use Rattle.calendar_rules.specs.Calendar.{first-year, last-year, periods-a-day, is-leap, month-days, date-exists, day-number, period-of-date, weekday-of, last-day, last-period, day-of-period}
+use Rattle.offer_rules.specs.Time.{start-of, day-of, periods-a-day, slot-of}
+use Rattle.calendar_rules.specs.Calendar.{first-year, last-year, is-leap, month-days, date-exists, day-number, period-of-date, weekday-of, last-day, last-period, day-of-period}
 use Rattle.calendar_rules.specs.Answers.{no-period, period-answer, is-outside-calendar, no-date, date-answer}
 
 -- ---- the day number
@@ -18,9 +18,11 @@ pub record Gregorian : Type 0 where
   pub by-4 : (y : ℕ) → y % 4 ≡ 0 → y % 100 ≢ 0 → is-leap y ≡ true
   pub by-none : (y : ℕ) → y % 4 ≢ 0 → is-leap y ≡ false
 
--- "Day 0 is 1 January 2024, a Monday", and each next date is the next day: within a month, after a month's last, after a year's last. No other count is so.
+-- "Day 0 is 1 January 2024, a Monday", whose weekday is 0, and each next date is the next day: within a month, after a month's last, after a year's last. No other
+-- count is so.
 pub record DayByDay : Type 0 where
   pub day-zero : day-number 2024 1 1 ≡ 0
+  pub a-monday : weekday-of (day-number 2024 1 1) ≡ 0
   pub in-month : (y m d : ℕ) → 1 ≤ d → day-number y m (d + 1) ≡ day-number y m d + 1
   pub next-month : (y m : ℕ) → 1 ≤ month-days (is-leap y) m → day-number y (m + 1) 1 ≡ day-number y m (month-days (is-leap y) m) + 1
   pub next-year : (y : ℕ) → first-year ≤ y → day-number (y + 1) 1 1 ≡ day-number y 12 31 + 1

@@ -24,12 +24,16 @@ slots = 336
 abbrev pub slot-of : ℕ → ℕ
 slot-of p = p % slots
 
+-- A day's periods: the market numbers them 1 to 48.
+abbrev pub periods-a-day : ℕ
+periods-a-day = 48
+
 -- The market outlook horizon: the first period that is too far ahead, 48·(d + 7).
 abbrev pub horizon-days : ℕ
 horizon-days = 7
 
 abbrev pub horizon-end : ℕ → ℕ
-horizon-end now = 48 * (day-of now + horizon-days)
+horizon-end now = periods-a-day * (day-of now + horizon-days)
 
 -- Refusal 10: "slot outside 0–335".
 abbrev pub slot-refused : ℤ → Bool

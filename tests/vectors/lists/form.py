@@ -4,7 +4,7 @@ Each line is written with the number that the papers give it, and each look-up a
 author read them. make.py compares them with the answers.
 """
 
-LEVEL = 5  # document 02's requests up to K5
+LEVEL = 6  # document 02's requests up to K6
 
 LIMITS = (-450000, 450000, 400000, 400001, 400002, 400003)
 
@@ -155,6 +155,18 @@ class Script:
 
     def next(self, minute, slot, period):
         self._line(f'next {minute} {slot} =', str(period))
+
+    def date(self, date, period, p=None, weekday=0):
+        """`date` is (year, month, day), and the weekday 0 for Monday; without P, 21."""
+        self._line('date {} {} {} {} ='.format(*date, period), '21 0 0' if p is None else f'0 {p} {weekday}')
+
+    def period(self, p, date=None, period=0, weekday=0):
+        """Without a date, 21."""
+        self._line(f'period {p} =', '21 0 0 0 0 0' if date is None else '0 {} {} {} {} {}'.format(*date, period, weekday))
+
+    def there_and_back(self, date, period, p, weekday):
+        self.date(date, period, p, weekday)
+        self.period(p, date, period, weekday)
 
     def write(self, words):
         self._line('write ' + ' '.join(f'{i} {value}' for i, value in words.items()) + ' =', '')
