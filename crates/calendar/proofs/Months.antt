@@ -1,10 +1,11 @@
 -- Months by division: each rule by a test that the check computes, at every month or at every day of a year.
 use mathlib.Core.Path.{_≡_, refl, sym}
-use mathlib.Core.Bool.{Bool, true, false, cond, _&&_}
-use Prim.Native.Nat.{ℕ, suc, _+_, _*_, _-_, _/_, _<_, _≤_}
+use mathlib.Core.Logic.{_≢_}
+use mathlib.Core.Bool.{Bool, true, false, cond, _&&_, _||_}
+use Prim.Native.Nat.{ℕ, suc, _+_, _*_, _-_, _/_, _%_, _<_, _≤_}
 use native.Mathlib.Omega.{arith}
 use lib.Dec.{eqb, leb, ltb}
-use borrow.Author.Tests.{leb-true, ltb-true}
+use borrow.Author.Tests.{eqb-true, ne-eqb, leb-true, ltb-true}
 use Rattle.offer_rules.proofs.Drawn.{and-left, and-right}
 use Rattle.calendar_rules.specs.Calendar.{year-days, month-days, days-before, month-at}
 use Rattle.calendar_rules.proofs.Everywhere.{passes-below, everywhere, agree}
@@ -14,6 +15,37 @@ use Rattle.calendar_rules.proofs.Lengths.{months-make-the-year, months-rise}
 pub year-at-most : (leap : Bool) → year-days leap ≤ 366
 year-at-most true = omega arith
 year-at-most false = omega arith
+
+-- What a test says of months 1 to 12.
+in-each-month : (test : ℕ → Bool) → passes-below (λ i. test (i + 1)) 12 ≡ true → (m : ℕ) → 1 ≤ m → m ≤ 12 → test m ≡ true
+in-each-month test e m l h =
+    let f : m - 1 + 1 ≡ m = omega arith in
+    rw f at (everywhere (λ i. test (i + 1)) 12 e (m - 1) (omega arith))
+
+-- ---- a month's days
+
+pub february-days : (leap : Bool) → 28 + cond leap 1 0 ≡ month-days leap 2
+unfolding month-days
+february-days true = refl
+february-days false = refl
+
+turns-agree : (leap : Bool) → passes-below (λ i. eqb (i + 1) 2 || eqb (30 + (i + 1 + (i + 1) / 8) % 2) (month-days leap (i + 1))) 12 ≡ true
+unfolding passes-below month-days
+turns-agree true = refl
+turns-agree false = refl
+
+pub days-in-turns : (leap : Bool) (m : ℕ) → 1 ≤ m → m ≤ 12 → m ≢ 2 → 30 + (m + m / 8) % 2 ≡ month-days leap m
+days-in-turns leap m l h n2 =
+    eqb-true (30 + (m + m / 8) % 2) (month-days leap m)
+    (rw (ne-eqb m 2 n2) at (in-each-month (λ k. eqb k 2 || eqb (30 + (k + k / 8) % 2) (month-days leap k)) (turns-agree leap) m l h))
+
+twenty-eight : (leap : Bool) → passes-below (λ i. leb 28 (month-days leap (i + 1))) 12 ≡ true
+unfolding passes-below month-days
+twenty-eight true = refl
+twenty-eight false = refl
+
+pub at-least-28 : (leap : Bool) (m : ℕ) → 1 ≤ m → m ≤ 12 → 28 ≤ month-days leap m
+at-least-28 leap m l h = leb-true 28 (month-days leap m) (in-each-month (λ k. leb 28 (month-days leap k)) (twenty-eight leap) m l h)
 
 -- ---- the days before a month
 
@@ -25,48 +57,78 @@ unfolding passes-below days-before month-days
 early-agree true = refl
 early-agree false = refl
 
-later-agree : (leap : Bool) → passes-below (λ i. eqb (evenly (i + 3) + cond leap 1 0 - 2) (days-before leap (i + 3))) 11 ≡ true
+later-agree : (leap : Bool) → passes-below (λ i. eqb (evenly (i + 3) + cond leap 1 0 - 2) (days-before leap (i + 3))) 10 ≡ true
 unfolding passes-below days-before month-days
 later-agree true = refl
 later-agree false = refl
 
--- January and February; the months after them, and the year's end.
+-- January and February, and the months after them.
 pub before-early : (leap : Bool) (m : ℕ) → 1 ≤ m → m < 3 → (367 * m - 362) / 12 ≡ days-before leap m
 before-early leap m l h =
     let e : m - 1 + 1 ≡ m = omega arith in
     rw e at (agree (λ i. evenly (i + 1)) (λ i. days-before leap (i + 1)) 2 (early-agree leap) (m - 1) (omega arith))
 
-pub before-later : (leap : Bool) (m : ℕ) → 3 ≤ m → m ≤ 13 → (367 * m - 362) / 12 + cond leap 1 0 - 2 ≡ days-before leap m
+pub before-later : (leap : Bool) (m : ℕ) → 3 ≤ m → m ≤ 12 → (367 * m - 362) / 12 + cond leap 1 0 - 2 ≡ days-before leap m
 before-later leap m l h =
     let e : m - 3 + 3 ≡ m = omega arith in
-    rw e at (agree (λ i. evenly (i + 3) + cond leap 1 0 - 2) (λ i. days-before leap (i + 3)) 11 (later-agree leap) (m - 3) (omega arith))
+    rw e at (agree (λ i. evenly (i + 3) + cond leap 1 0 - 2) (λ i. days-before leap (i + 3)) 10 (later-agree leap) (m - 3) (omega arith))
 
-pub before-at-most : (leap : Bool) (m : ℕ) → m ≤ 13 → days-before leap m ≤ 366
+pub before-at-most : (leap : Bool) (m : ℕ) → m ≤ 12 → days-before leap m ≤ 366
 before-at-most leap m h =
-    omega (arith, later-begins-later (days-before leap) (months-rise leap) m 13 h, months-make-the-year leap, year-at-most leap)
+    omega (arith, later-begins-later (days-before leap) (months-rise leap) m 13 (omega arith), months-make-the-year leap, year-at-most leap)
 
 -- ---- the month of a day
 
--- The month as the code has it, by division and one comparison.
-abbrev divided : Bool → ℕ → ℕ
-divided leap r = r / 31 + 1 + cond (leb (days-before leap (r / 31 + 1 + 1)) r) 1 0
+-- The day as it would be with a February of 30 days.
+abbrev evened : Bool → ℕ → ℕ
+evened leap r = cond (ltb r (59 + cond leap 1 0)) r (r + 2 - cond leap 1 0)
 
--- It is one of 12, it has begun, and the next hasn't.
-abbrev is-right : Bool → ℕ → Bool
-is-right leap r = (leb (divided leap r) 12 && leb (days-before leap (divided leap r)) r) && ltb r (days-before leap (suc (divided leap r)))
+-- The month is one of 12 and the day one of 31: those of the rule.
+pub record Falls (leap : Bool) (r m d : ℕ) : Type 0 where
+  pub is-month : m ≡ month-at leap r
+  pub is-day : d ≡ r - days-before leap (month-at leap r) + 1
+  pub to-december : m ≤ 12
+  pub to-31 : d ≤ 31
 
-right-everywhere : (leap : Bool) → passes-below (is-right leap) (year-days leap) ≡ true
+-- The month has begun, and the next hasn't; and the day is that of the month.
+abbrev month-right : Bool → ℕ → ℕ → Bool
+month-right leap r m = leb m 12 && (leb (days-before leap m) r && ltb r (days-before leap (suc m)))
+
+abbrev day-right : Bool → ℕ → ℕ → ℕ → Bool
+day-right leap r m d = eqb d (r - days-before leap m + 1) && leb d 31
+
+abbrev is-right : Bool → ℕ → ℕ → ℕ → Bool
+is-right leap r m d = month-right leap r m && day-right leap r m d
+
+right-falls : (leap : Bool) (r m d : ℕ) → is-right leap r m d ≡ true → Falls leap r m d
+right-falls leap r m d t =
+    let a = and-left (month-right leap r m) (day-right leap r m d) t in
+    let b = and-right (month-right leap r m) (day-right leap r m d) t in
+    let most = leb-true m 12 (and-left (leb m 12) (leb (days-before leap m) r && ltb r (days-before leap (suc m))) a) in
+    let c = and-right (leb m 12) (leb (days-before leap m) r && ltb r (days-before leap (suc m))) a in
+    let begun = leb-true (days-before leap m) r (and-left (leb (days-before leap m) r) (ltb r (days-before leap (suc m))) c) in
+    let next = ltb-true r (days-before leap (suc m)) (and-right (leb (days-before leap m) r) (ltb r (days-before leap (suc m))) c) in
+    let e = none-other (days-before leap) (months-rise leap) 12 r m most begun next in
+    record {
+      is-month = sym e;
+      is-day = rw e (eqb-true d (r - days-before leap m + 1) (and-left (eqb d (r - days-before leap m + 1)) (leb d 31) b));
+      to-december = most;
+      to-31 = leb-true d 31 (and-right (eqb d (r - days-before leap m + 1)) (leb d 31) b);
+    }
+
+-- As the code has them.
+abbrev fallen-month : Bool → ℕ → ℕ
+fallen-month leap r = (12 * evened leap r + 373) / 367
+
+abbrev fallen-day : Bool → ℕ → ℕ
+fallen-day leap r = evened leap r - evenly (fallen-month leap r) + 1
+
+right-everywhere : (leap : Bool) → passes-below (λ r. is-right leap r (fallen-month leap r) (fallen-day leap r)) (year-days leap) ≡ true
 unfolding passes-below days-before month-days
 right-everywhere true = refl
 right-everywhere false = refl
 
-pub month-by-division : (leap : Bool) (r : ℕ) → r < year-days leap
-    → (divided leap r ≡ month-at leap r) × (1 ≤ divided leap r) × (divided leap r ≤ 12) × (days-before leap (divided leap r) ≤ r)
-month-by-division leap r h =
-    let m = divided leap r in
-    let t = everywhere (is-right leap) (year-days leap) (right-everywhere leap) r h in
-    let a = and-left (leb m 12 && leb (days-before leap m) r) (ltb r (days-before leap (suc m))) t in
-    let most = leb-true m 12 (and-left (leb m 12) (leb (days-before leap m) r) a) in
-    let begun = leb-true (days-before leap m) r (and-right (leb m 12) (leb (days-before leap m) r) a) in
-    let next = ltb-true r (days-before leap (suc m)) (and-right (leb m 12 && leb (days-before leap m) r) (ltb r (days-before leap (suc m))) t) in
-    (sym (none-other (days-before leap) (months-rise leap) 12 r m most begun next), omega arith, most, begun)
+pub falls : (leap : Bool) (r : ℕ) → r < year-days leap → Falls leap r (fallen-month leap r) (fallen-day leap r)
+falls leap r h =
+    right-falls leap r (fallen-month leap r) (fallen-day leap r)
+    (everywhere (λ k. is-right leap k (fallen-month leap k) (fallen-day leap k)) (year-days leap) (right-everywhere leap) r h)

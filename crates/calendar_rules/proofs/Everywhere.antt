@@ -1,10 +1,10 @@
 -- A rule at each number below a bound, by one test that the check computes.
 use mathlib.Core.Path.{_≡_, refl, ap, _∙_}
 use mathlib.Core.Bool.{Bool, true, false, _&&_}
-use Prim.Native.Nat.{ℕ, zero, suc, _<_, _≤_}
+use Prim.Native.Nat.{ℕ, zero, suc, _<_}
 use native.Mathlib.Omega.{arith}
-use lib.Dec.{eqb, leb}
-use borrow.Author.Tests.{eqb-true, eqb-false, leb-true}
+use lib.Dec.{eqb}
+use borrow.Author.Tests.{eqb-true, eqb-false}
 use Rattle.offer_rules.proofs.Drawn.{and-left, and-right}
 
 -- The test passes at 0 to n - 1.
@@ -21,9 +21,6 @@ everywhere test (suc n) e k h = go (eqb k n) refl (everywhere test n (and-right 
     go true i below = ap test (eqb-true k n i) ∙ and-left (test n) (passes-below test n) e
     go false i below = let ne = eqb-false k n i in below k (omega (arith, ne))
 
--- Two functions that agree, and one that stays at or below a number.
+-- Two functions that agree.
 pub agree : (f g : ℕ → ℕ) (n : ℕ) → passes-below (λ k. eqb (f k) (g k)) n ≡ true → (k : ℕ) → k < n → f k ≡ g k
 agree f g n e k h = eqb-true (f k) (g k) (everywhere (λ j. eqb (f j) (g j)) n e k h)
-
-pub at-most : (f : ℕ → ℕ) (b n : ℕ) → passes-below (λ k. leb (f k) b) n ≡ true → (k : ℕ) → k < n → f k ≤ b
-at-most f b n e k h = leb-true (f k) b (everywhere (λ j. leb (f j) b) n e k h)

@@ -11,11 +11,8 @@ mul-result c = search needs
 add-result : tie.Need-add-result
 add-result c = search needs
 
-add-result-2 : tie.Need-add-result-2
-add-result-2 c = search needs
-
 returns : tie.Need-returns
 returns c = (years-by-fours (c .args .n) (omega arith), search needs)
 
 pub days-of-years-spec : {M : Type 1} → statement M
-days-of-years-spec = tie.close (tie.spec mul-result add-result add-result-2 returns)
+days-of-years-spec = tie.close (tie.spec mul-result add-result returns)

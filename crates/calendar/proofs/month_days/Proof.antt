@@ -1,37 +1,27 @@
--- month_days: from the month's beginning to the next one's.
+-- month_days: February, and the others in turns.
 use borrow.Author.Needs.{needs}
-use native.Mathlib.Omega.{arith}
-use mathlib.Core.Path.{_≡_}
-use Prim.Native.Nat.{suc, _+_}
-use Rattle.calendar_rules.specs.Calendar.{month-days, days-before}
-use Rattle.calendar_rules.proofs.Lengths.{month-more}
+use Rattle.calendar.proofs.Months.{february-days, days-in-turns}
 use Rattle.calendar.proofs.month_days.Statement.{statement}
 use Rattle.calendar.proofs.month_days.Tie as tie
 
-add-days-before : tie.Need-add-days-before
-add-days-before c = search needs
+counted-requires : tie.Need-counted-requires
+counted-requires c κs = search needs
 
-days-before-requires : tie.Need-days-before-requires
-days-before-requires c κs = search needs
-
-days-before-requires-2 : tie.Need-days-before-requires-2
-days-before-requires-2 c κs = search needs
-
--- The next month begins a month's days later.
-next-begins : (c : tie.After-days-before2)
-    → c .before .days-before .result ≡ c .days-before2 .result + month-days (c .before .before .args .leap) (c .before .before .args .month)
-next-begins c =
-    let s = c .before .before in
-    let e : s .args .month + 1 ≡ suc (s .args .month) = omega arith in
-    rw (c .before .days-before .ensures .0, c .days-before2 .ensures .0, e) (month-more (s .args .leap) (s .args .month))
-
-sub-result : tie.Need-sub-result
-sub-result c = let h = next-begins c in omega arith
+add-result : tie.Need-add-result
+add-result c = search needs
 
 returns : tie.Need-returns
-returns c = let h = next-begins c in omega arith
+returns c = rw (c .counted .ensures .0, c .before .if1 .taken) (february-days (c .before .before .args .leap))
+
+add-result-2 : tie.Need-add-result-2
+add-result-2 c = search needs
+
+add-result-3 : tie.Need-add-result-3
+add-result-3 c = search needs
+
+returns-2 : tie.Need-returns-2
+returns-2 c = let s = c .before in days-in-turns (s .args .leap) (s .args .month) (s .pre .0) (s .pre .1) (c .if1 .left)
 
 pub month-days-spec : {M : Type 1} → statement M
 month-days-spec =
-    tie.close
-    (tie.spec add-days-before days-before-requires days-before-requires-2 sub-result returns)
+    tie.close (tie.spec counted-requires add-result returns add-result-2 add-result-3 returns-2)
