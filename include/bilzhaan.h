@@ -174,7 +174,8 @@ enum {
     /* the reader */
     BILZHAAN_NOTHING_IN_FORCE = 19,
     /* the host program, from the opening and the record test */
-    BILZHAAN_OPENING_REFUSED = 20      /* F, S, words too few, or limits */
+    BILZHAAN_OPENING_REFUSED = 20,     /* F, S, words too few, or limits */
+    BILZHAAN_DATE_REFUSED = 21         /* no date of 2024 to 2099, no period of 1 to 48, or P outside theirs */
 };
 
 /* An answer. Beside a refusal, and for accepted calls 1 to 7, words and sum are zero. A look-up's sum is its ten
