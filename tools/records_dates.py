@@ -15,7 +15,7 @@ DATE_REFUSED = 21
 
 # ---- reading
 
-def refused(text):
+def date_refused(text):
     return BadArgument(f'{text} ({DATE_REFUSED})')
 
 
@@ -23,14 +23,14 @@ def date(text):
     """A date's day number."""
     match = re.fullmatch('([0-9]{4})-([0-9]{2})-([0-9]{2})', text)
     if not match:
-        raise refused(f"'{text}' is no date YYYY-MM-DD")
+        raise date_refused(f"'{text}' is no date YYYY-MM-DD")
     year, month, day = map(int, match.groups())
     if not FIRST_YEAR <= year <= LAST_YEAR:
-        raise refused(f"'{text}': the year is outside {FIRST_YEAR} to {LAST_YEAR}")
+        raise date_refused(f"'{text}': the year is outside {FIRST_YEAR} to {LAST_YEAR}")
     try:
         return (datetime.date(year, month, day) - DAY_0).days
     except ValueError:
-        raise refused(f"'{text}' is no date") from None
+        raise date_refused(f"'{text}' is no date") from None
 
 
 def weekday(text):
@@ -43,7 +43,7 @@ def weekday(text):
 def period_of(day, text):
     """P of a day number and a period of the day."""
     if not re.fullmatch('[0-9]{1,2}', text) or not 1 <= int(text) <= 48:
-        raise refused(f"'{text}' is no period of the day, 1 to 48")
+        raise date_refused(f"'{text}' is no period of the day, 1 to 48")
     return 48 * day + int(text) - 1
 
 
@@ -91,8 +91,8 @@ def show_date(day):
 
 def named_day(day):
     """A day by its date or, where it has none, by its number; and the other, or why it is missing."""
-    number = f'day {day}'
-    return (show_date(day), number) if show_date(day) else (number, f'no date after {LAST_DATE}')
+    number, named = f'day {day}', show_date(day)
+    return (named, number) if named else (number, f'no date after {LAST_DATE}')
 
 
 def show_time(minutes):
