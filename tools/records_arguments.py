@@ -240,7 +240,7 @@ def add_explain_options(parser):
 
 @lru_cache(maxsize=1)
 def parser_of_all():
-    others = {'sample': "writes document 01's worked run, nine records", 'explain': 'says what records and answers mean'}
+    others = {'sample': "writes document 01's worked run, nine records", 'explain': 'says what records, answers and periods mean'}
     texts = {**{name: text for name, (text, _) in COMMANDS.items()}, **others}
     top = TopParser(prog='records.py', description=TOP.format(commands='\n'.join(f'  {name:<12}{text}' for name, text in texts.items())))
     commands = top.add_subparsers(dest='command', required=True, metavar='COMMAND', parser_class=Parser)
@@ -278,6 +278,7 @@ def settle_period(options, name, day):
 
 
 def settle_slot(options):
+    """A weekday stands for its day of the first week."""
     if options.slot is not None:
         if options.period is not None:
             options.error('--period goes with --date or --weekday, not with --slot')

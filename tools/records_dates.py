@@ -130,7 +130,7 @@ def show_period(value):
 
 
 def show_periods(first, last):
-    """Both, and between brackets by date."""
+    """Both ends by number, and in brackets by date."""
     ends = [f'{named_day(value // 48)[0]} period {period_of_day(value)}' if value >= 0 else 'before day 0' for value in (first, last)]
     return f'periods {first} to {last} ({ends[0]} to {ends[1]})'
 
