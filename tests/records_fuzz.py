@@ -28,13 +28,16 @@ STREAMS_EVERY = 20
 JUNK = (
     '', '-', '--', '-1', '-50@40', '-1.5MW/min', '-1/00:00', '0', '1', '2', '4', '64', '255', '256', '336', '1000000001', '2147483648', 'x', '9' * 29, '9' * 5000,
     '0' * 50 + '1', '1e3', '1.', '.5', '1@', '@1', '1@1,', '1@1@1', ',', '=', '%', 'MW', '1.5MW', '0.05MW', '62.5%', 'Mon/02:00', '1/24:00', '//',
+    '2026-11-16', '2026-1-6', '2025-02-29', '2100-01-01', '2026-11-16/11:30', '\u0662\u0660\u0662\u0666-11-16',
     '\n', 'a\nb', '\r', '\t', '\x1b[1m', '\udcff', '\u0663', '\u00e9', '%s', '{}', 'a b', 'then', '-h', '--help', '--hex', '--out', '--answer', '--strict',
     '--anyway', '--take-back', '--no-such', 'explain', 'clock', '/no/such/file', '/dev/null', '/dev/full', '.', 'ff' * 112, '534f42')
+DATES = ('2024-01-01', '2024-02-29', '2026-11-16', '2099-12-31', '2025-02-29', '2100-01-01')
 VALUES = {
     '--facility': ('0', '1', '63', '64', '255'), '--service': ('energy', 'primary', 'regulation', '0', '3', '4'),
-    '--period': ('1', '4', '340', '7/02:00', '33333647', '0'), '--slot': ('0', '4', '335', 'Mon/02:00', 'sun/23:30', '336'),
-    '--minute': ('0', '5', '1440', '1/00:00', '1000000000', '-1'), '--periods': ('1', '3', '48', '49'),
-    '--first': ('0', '4', '1/00:00'), '--last': ('4', '40000000'),
+    '--period': ('1', '4', '24', '48', '49', '340', '7/02:00', '2026-11-16/11:30', '33333647', '0'), '--slot': ('0', '4', '335', 'Mon/02:00', 'sun/23:30', '336'),
+    '--minute': ('0', '5', '1440', '1/00:00', '2026-11-16/11:40', '1000000000', '-1'), '--periods': ('1', '3', '48', '49'),
+    '--first': ('0', '4', '1/00:00'), '--last': ('4', '48', '40000000', '2026-11-16/11:30'),
+    '--date': DATES, '--last-date': DATES, '--weekday': ('Mon', 'sun', 'Monday'),
     '--kind': ('generation', 'load', 'link', '1', '2', '3', '4', 'surplus', 'shortfall', 'status', '5'),
     '--registered': ('energy', 'primary,secondary', '0,1,2,3,4', '3'),
     '--max-generation': ('1300', '130.0MW', '100000'), '--max-combined': ('800', '80MW'), '--max-ramp-up': ('15', '1.5MW/min', '1000.0MW'),
@@ -46,9 +49,12 @@ VALUES = {
 }
 MORE = {
     'capability': ('--max-generation', '--max-combined', '--max-ramp-up', '--max-primary-proportion', '--registered'), 'withdrawal': ('--kind',),
-    'standing': ('--reason', '--proportion', '--ramp-up', '--ramp-down', '--mw'), 'variation': ('--reason', '--proportion', '--ramp-up', '--ramp-down', '--mw'),
+    'standing': ('--reason', '--proportion', '--ramp-up', '--ramp-down', '--mw'),
+    'variation': ('--reason', '--proportion', '--ramp-up', '--ramp-down', '--mw', '--date'), 'notice': ('--date', '--last-date'),
+    'look-up': ('--date',), 'total': ('--date',),
 }
 NEEDED = {'capability': ('--kind',), 'notice': ('--kind',), 'standing': ('--pairs',), 'variation': ('--pairs',)}
+SLOTS = (('--slot',), ('--date', '--period'), ('--weekday', '--period'))
 
 SAMPLE = records.sample()
 LOST = ('closed', 'full', 'gone', 'read-only', 'small')
@@ -94,7 +100,7 @@ class Case:
 
     def answers(self):
         def answer():
-            number, first = self.chance.choice((0, 0, self.chance.randint(0, 20))), self.chance.choice((0, 1, 2, 3, 4, 5, -1))
+            number, first = self.chance.choice((0, 0, self.chance.randint(0, 21))), self.chance.choice((0, 1, 2, 3, 4, 5, -1))
             total = self.chance.choice((0, 700, -5, 10**10))
             middle = [self.chance.choice((0, 0, 500, 2**31 - 1)) for _ in range(23)] if self.one_in(3) else []
             return ' '.join(map(str, [number, first if number == 0 or self.one_in(5) else 0, *middle, total if number == 0 else 0]))
@@ -129,6 +135,7 @@ class Case:
         if name == 'sample':
             return [name, *self.output_words()]
         options = [*COMMANDS[name][1], *NEEDED.get(name, ()), *(option for option in MORE.get(name, ()) if self.one_in(4))]
+        options += self.chance.choice(SLOTS) if name == 'standing' else ()
         words = [name]
         for option in options:
             words += [option, self.value(option)]
@@ -136,7 +143,7 @@ class Case:
 
     def explain_words(self):
         words = ['explain']
-        source = self.chance.randrange(8)
+        source = self.chance.randrange(9)
         if source == 0:
             words += ['--answer', *self.chance.choice(('0 0 0', '17 0 0', '0 1 700', '0 3 700', '0 4 0', '0 2' + ' 5' * 24, '9 9', '-1 0 0', '0 -1 0', '0 0 ' + '9' * 29)).split()]
             words += ['--call', self.value('--call')] if self.one_in(2) else []
@@ -145,7 +152,10 @@ class Case:
             words += ['--record', self.chance.choice((SAMPLE[:LENGTH].hex(), self.damaged(SAMPLE[LENGTH:2 * LENGTH]).hex(), '', '5', '534f42', 'x'))]
         elif source == 2:
             words += self.chance.choice(([''], ['nothing'], ['.'], ['/dev/null']))
-        elif source <= 4:
+        elif source == 3:
+            words += ['--period', self.value('--period'), *(['--date', self.value('--date')] if self.one_in(2) else [])]
+            return words if self.one_in(2) else words + self.chance.choice((['--strict'], ['file'], ['--answer', '0', '0', '0']))
+        elif source <= 5:
             words += self.chance.choice(([], ['-']))
         else:
             words.append(self.file(SAMPLE if self.one_in(2) else self.records()))

@@ -1,6 +1,7 @@
 """Tests of tools/records.py: its bytes against hex written by hand, amounts, bad arguments, streams, explanations, the vectors;
 and that its words are those of include/bilzhaan.h and docs/REFUSALS.md, whose sums are worked out again.
 Run it directly, or with python3 -m unittest tests/records_test.py."""
+import collections
 import contextlib
 import io
 import itertools
@@ -24,6 +25,7 @@ sys.path.insert(0, os.path.dirname(TOOL))
 
 import records  # noqa: E402
 import records_amounts  # noqa: E402
+import records_dates  # noqa: E402
 import records_layout  # noqa: E402
 from records_answers import Book, explain_answer, read_answer  # noqa: E402
 from records_arguments import COMMANDS, TOP  # noqa: E402
@@ -161,6 +163,48 @@ class BytesByHand(Tool):
         self.assertEqual(self.made('total --service regulation --period 48'), want)
 
 
+class DatesByHand(Tool):
+    """Period 24 of 16 November 2026, a Monday, is 48 * 1050 + 23: c4f7, and slot 23."""
+
+    def test_variation(self):
+        want = from_hex('''534f42 0001 04 05 00 0000c4f7 00 00 0000 00000000 00000000 00000000 00000000
+            00000fa0 0000012c''' + '00000000' * 18)
+        for when in ('--date 2026-11-16 --period 24', '--period 24 --date=2026-11-16', '--period 2026-11-16/11:30', '--period 1050/11:30'):
+            self.assertEqual(self.made(f'variation --facility 5 --service energy {when} --pairs 300@4000'), want, when)
+
+    def test_look_up(self):
+        want = head('534f42 0001 08 3f 03 0000c4f7 00 00 0000 00000000 00000000 00000000 00000000')
+        self.assertEqual(self.made('look-up --facility 63 --service contingency --date 2026-11-16 --period 24'), want)
+
+    def test_total(self):
+        want = head('534f42 0001 09 00 04 0000c4f7 00 00 0000 00000000 00000000 00000000 00000000')
+        self.assertEqual(self.made('total --service regulation --date 2026-11-16 --period 24'), want)
+
+    def test_standing_offer(self):
+        for slot, ways in (('00000017', ('--date 2026-11-16 --period 24', '--weekday Mon --period 24', '--period 24 --weekday mon', '--slot 23')),
+                           ('0000014f', ('--date 2026-11-22 --period 48', '--weekday SUN --period 48')),
+                           ('00000030', ('--date 2026-11-17 --period 1', '--weekday Tue --period 01'))):
+            want = from_hex(f'''534f42 0001 03 05 00 {slot} 00 00 0000 00000000 00000000 00000000 00000000
+                00000fa0 0000012c''' + '00000000' * 18)
+            for when in ways:
+                self.assertEqual(self.made(f'standing --facility 5 --service energy {when} --pairs 300@4000'), want, when)
+
+    def test_notice(self):
+        """On one date; over midnight."""
+        want = head('534f42 0001 06 00 00 00000000 04 00 0000 00000000 00000000 0000c4f7 0000c4f8')
+        for when in ('--date 2026-11-16 --first 24 --last 25', '--last 25 --first 24 --date 2026-11-16', '--first 2026-11-16/11:30 --last 2026-11-16/12:00'):
+            self.assertEqual(self.made(f'notice --kind shortfall {when}'), want, when)
+        want = head('534f42 0001 06 00 00 00000000 04 00 0000 00000000 00000000 0000c50f 0000c510')
+        self.assertEqual(self.made('notice --kind shortfall --date 2026-11-16 --first 48 --last-date 2026-11-17 --last 1'), want)
+
+    def test_minutes(self):
+        """11:40 on that date is minute 30 * 50423 + 10: 1714fc."""
+        want = head('534f42 0001 01 00 00 00000000 00 00 0000 00000000 00000000 001714fc 00000000')
+        self.assertEqual(self.made('clock --minute 2026-11-16/11:40'), want)
+        want = head('534f42 0001 05 02 00 00000000 00 00 0000 00000000 00000000 001714fc 00000003')
+        self.assertEqual(self.made('outage --facility 2 --minute 2026-11-16/11:40 --periods 3'), want)
+
+
 class WorkedRun(Tool):
     def test_nine_records(self):
         want = from_hex(contents(HERE, 'worked-run.hex').decode())
@@ -217,8 +261,86 @@ class Amounts(Tool):
             self.assertEqual(self.made(line), self.made(same), line)
 
 
+def counted_dates():
+    """Those of 2024 to 2099, one by one."""
+    return [f'{year}-{month:02d}-{day:02d}' for year in range(2024, 2100)
+            for month, days in enumerate((31, 29 if year % 4 == 0 else 28, 31, 30, 31, 30, 31, 31, 30, 31, 30, 31), 1) for day in range(1, days + 1)]
+
+
+class Calendar(Tool):
+    """The dates that there are, and the vectors, both ways; everything else is 21."""
+    WEEKDAYS = ('Monday', 'Tuesday', 'Wednesday', 'Thursday', 'Friday', 'Saturday', 'Sunday')
+
+    def words(self, date, period):
+        return ['total', '--service', 'energy', '--anyway', f'--date={date}', f'--period={period}']
+
+    def test_every_date(self):
+        dates = counted_dates()
+        self.assertEqual([records_dates.date(text) for text in dates], list(range(27759)))
+        self.assertEqual([records_dates.show_date(day) for day in range(-1, 27760)], ['', *dates, ''])
+
+    def test_no_other_date(self):
+        dates = set(counted_dates())
+        for year, month, day in itertools.product(range(2022, 2102), range(14), range(33)):
+            text = f'{year}-{month:02d}-{day:02d}'
+            if text not in dates:
+                why = ' is no date' if 2024 <= year <= 2099 else ': the year is outside 2024 to 2099'
+                with self.assertRaisesRegex(records_amounts.BadArgument, rf"^'{text}'{why} \(21\)$"):
+                    records_dates.date(text)
+
+    def test_edges(self):
+        for date, period, want in (('2024-01-01', '1', 0), ('2024-01-01', '48', 47), ('2024-01-02', '1', 48), ('2024-02-28', '48', 2831),
+                                   ('2024-02-29', '1', 2832), ('2024-03-01', '1', 2880), ('2025-02-28', '48', 20399), ('2025-03-01', '1', 20400),
+                                   ('2099-12-31', '1', 1332384), ('2099-12-31', '48', 1332431)):
+            self.assertEqual(run(self.words(date, period)), (0, build(9, period=want), ''))
+        for date, why in (('2025-02-29', ' is no date'), ('2026-04-31', ' is no date'), ('2100-01-01', ': the year is outside 2024 to 2099'),
+                          ('2023-12-31', ': the year is outside 2024 to 2099'), ('0000-00-00', ': the year is outside 2024 to 2099')):
+            self.assertIn(f"argument --date: '{date}'{why} (21)", self.refused(self.words(date, 1)))
+        for period in ('0', '00', '49', '99', '-1', '100', '048', '1' * 500, '24.0', '1e1', '+1', ' 24', '24 ', '24\n', '\u0662\u0664', ''):
+            self.assertIn('is no period of the day, 1 to 48 (21)', self.refused(self.words('2024-02-29', period)))
+
+    def test_one_spelling(self):
+        for text in ('2026-1-6', '20261116', '2026-11-16T11:30', '2026-11-16/11:30', '2026-11-16 ', ' 2026-11-16', '2026-11-16\n', '2026/11/16', '2026.11.16',
+                     '16-11-2026', '26-11-16', '2026-11-016', '02026-11-16', '+2026-11-16', '-2026-11-16', '2026-11', '2026-W47-1', '2026-Nov-16',
+                     '\u0662\u0660\u0662\u0666-11-16', '2026\u201011\u201016', ''):
+            self.assertIn('is no date YYYY-MM-DD (21)', self.refused(self.words(text, 24)))
+
+    def test_vectors(self):
+        """'date year month day period = number P weekday', 'period P = number year month day period weekday'."""
+        seen = collections.Counter()
+        for line in contents(HERE, 'vectors', 'k6_dates.txt').decode().splitlines()[1:]:
+            operation, answer = line.split(' = ')
+            name, *given = operation.split()
+            number, *values = map(int, answer.split())
+            seen[name, number] += 1
+            check = self.check_date if name == 'date' else self.check_period
+            check([int(value) for value in given], number, values)
+        self.assertEqual(seen, {('date', 0): 2558, ('date', 21): 149, ('period', 0): 2531, ('period', 21): 8})
+
+    def check_date(self, given, number, answer):
+        year, month, day, period = given
+        words = self.words(f'{year:04d}-{month:02d}-{day:02d}', period)
+        if number:
+            self.assertIn('(21)', self.refused(words))
+        else:
+            self.assertEqual(run(words), (0, build(9, period=answer[0]), ''), words)
+            standing = ['standing', '--facility', '0', '--service', 'energy', '--pairs', '1@1', *words[4:]]
+            self.assertEqual(read(run(standing)[1]).period, 48 * answer[1] + period - 1, words)
+
+    def check_period(self, given, number, answer):
+        text = self.explained(f'--period {given[0]}')
+        if number:
+            self.assertIn('\nrefused with 21, date refused;', text)
+        else:
+            year, month, day, period, weekday = answer
+            self.assertTrue(text.startswith(f'period {given[0]} ({year}-{month:02d}-{day:02d}, {self.WEEKDAYS[weekday]}, period {period}, '), (text, answer))
+
+
 class BadArguments(Tool):
     OFFER = 'standing --facility 0 --service energy --slot 4 '
+    SLOTTED = 'standing --facility 0 --service energy --pairs 1@1 '
+    TOTAL = 'total --service energy '
+    NOTICE = 'notice --kind status '
     TABLE = (
         ('', 'required: COMMAND'),
         ('offer --facility 0', "invalid choice: 'offer'"),
@@ -318,6 +440,47 @@ class BadArguments(Tool):
         ('variation --facility 0 --service energy --period 4 --pairs 1@1 --take-back', 'not allowed with'),
         ('variation --facility 0 --service energy --period 4 --reason 7 --take-back', 'refuses this with 11'),
         (OFFER + '--take-back', 'required'),
+        (TOTAL + '--date 2026-11-16 --date 2026-11-16 --period 24', '--date is given twice'),
+        (TOTAL + '--date 2024-01-01 --date 2024-01-01 --period 24', '--date is given twice'),
+        (TOTAL + '--date 2026-11-16 --period 24 --period 24', '--period is given twice'),
+        (TOTAL + '--date 2026-11-16', 'required: --period'),
+        (TOTAL + '--date 2026-11-16 --period 1050/11:30', "argument --period: '1050/11:30' is no period of the day, 1 to 48 (21)"),
+        (TOTAL + '--date 2026-11-16 --period 2026-11-16/11:30', "'2026-11-16/11:30' is no period of the day, 1 to 48 (21)"),
+        (TOTAL + '--date 2026-11-16 --period 11:30', "'11:30' is no period of the day"),
+        (TOTAL + '--date 2026-11-16 --period x', "'x' is no period of the day"),
+        (TOTAL + '--date 1050 --period 24', "argument --date: '1050' is no date YYYY-MM-DD (21)"),
+        (TOTAL + '--date Mon --period 24', "'Mon' is no date YYYY-MM-DD (21)"),
+        (TOTAL + '--date 2024-01-01 --period 1', 'refuses this with 10'),
+        (TOTAL + '--weekday Mon --period 24', 'unrecognized arguments: --weekday'),
+        (TOTAL + '--period 2026-11-16', "argument --period: '2026-11-16' is not a whole number"),
+        (TOTAL + '--period 2025-02-29/11:30', "argument --period: '2025-02-29' is no date (21)"),
+        (TOTAL + '--period 2026-11-16/11:45', 'a period starts at :00 or :30'),
+        ('clock --minute 2100-01-01/00:00', "argument --minute: '2100-01-01': the year is outside 2024 to 2099 (21)"),
+        ('clock --minute 2026-11-16/24:00', 'is not a time of day'),
+        ('clock --date 2026-11-16 --minute 5', 'unrecognized arguments: --date'),
+        (SLOTTED, 'one of the arguments --slot --date --weekday is required'),
+        (SLOTTED + '--period 24', 'one of the arguments --slot --date --weekday is required'),
+        (SLOTTED + '--slot 4 --period 24', '--period goes with --date or --weekday, not with --slot'),
+        (SLOTTED + '--slot 4 --date 2026-11-16 --period 24', 'not allowed with argument --slot'),
+        (SLOTTED + '--weekday Mon --slot 4', 'not allowed with argument --weekday'),
+        (SLOTTED + '--date 2026-11-16 --weekday Mon --period 24', 'not allowed with argument --date'),
+        (SLOTTED + '--date 2026-11-16', '--date and --weekday go with --period, 1 to 48'),
+        (SLOTTED + '--weekday Mon', '--date and --weekday go with --period, 1 to 48'),
+        (SLOTTED + '--weekday Monday --period 24', "'Monday' is not one of Mon"),
+        (SLOTTED + '--weekday 0 --period 24', "'0' is not one of Mon"),
+        (SLOTTED + '--weekday Mon --weekday Mon --period 24', '--weekday is given twice'),
+        (SLOTTED + '--weekday Mon --period 49', "'49' is no period of the day, 1 to 48 (21)"),
+        (SLOTTED + '--weekday Mon --period 0/11:30', "'0/11:30' is no period of the day"),
+        (SLOTTED + '--slot 2026-11-16/11:30', "'2026-11-16' is not one of Mon"),
+        (NOTICE + '--first 1 --last 2 --last-date 2026-11-16', '--last-date goes with --date'),
+        (NOTICE + '--date 2026-11-16 --first 0 --last 2', "argument --first: '0' is no period of the day, 1 to 48 (21)"),
+        (NOTICE + '--date 2026-11-16 --first 1 --last 49', "argument --last: '49' is no period of the day, 1 to 48 (21)"),
+        (NOTICE + '--date 2026-11-16 --first 1 --last 50424', "argument --last: '50424' is no period of the day"),
+        (NOTICE + '--date 2026-11-16 --first 1 --last-date 2026-11-17 --last 1051/00:00', "argument --last: '1051/00:00' is no period of the day"),
+        (NOTICE + '--date 2026-11-16 --first 1 --last-date 2026-11-31 --last 1', "argument --last-date: '2026-11-31' is no date (21)"),
+        (NOTICE + '--date 2026-11-16 --first 2 --last 1', 'refuses this with 7'),
+        (NOTICE + '--date 2026-11-17 --first 1 --last-date 2026-11-16 --last 48', 'refuses this with 7'),
+        (NOTICE + '--date 2026-11-16 --first 1', 'required: --last'),
         ('outage --facility 0 --minute 5 --periods 0', 'refuses this with 7'),
         ('outage --facility 0 --minute 5 --periods 49', 'refuses this with 7 or a lower number: 49 periods: generation 1 to 3, load 1 to 48, link none'),
         ('outage --facility 0 --minute -5 --periods 1', 'refuses this with 7'),
@@ -337,7 +500,7 @@ class BadArguments(Tool):
         ('explain /no/such/file', 'No such file'),
         ('explain --record 53x', 'not pairs of hex digits'),
         ('explain --answer 0 1', 'an answer is 3 numbers'),
-        ('explain --answer 21 0 0', 'number 21 is outside 0 to 20'),
+        ('explain --answer 22 0 0', 'number 22 is outside 0 to 21'),
         ('explain --answer 0 x 0', "'x' is not a whole number"),
         ('explain --answer 0 2147483648 0', 'is outside'),
         ('explain --answer 0 1 700 --call clock --record 00', '--answer stands alone'),
@@ -353,6 +516,15 @@ class BadArguments(Tool):
         ('explain - --answers -', 'standard input cannot hold the records and the answers'),
         ('explain --record 00 --facilities 1 --facilities 1', '--facilities is given twice'),
         ('explain --record 00 --facilities one', "'one' is not a whole number"),
+        ('explain --date 2026-11-16', '--date goes with --period, 1 to 48'),
+        ('explain --date 2026-11-16 --record 00', '--date goes with --period, 1 to 48'),
+        ('explain --date 2025-02-29 --period 24', "'2025-02-29' is no date (21)"),
+        ('explain --date 2026-11-16 --period 49', "'49' is no period of the day, 1 to 48 (21)"),
+        ('explain --period 4 --period 4', '--period is given twice'),
+        ('explain --period 2147483648', 'is outside'),
+        *((f'explain --period 4 {more}', '--period stands alone, or with --date') for more in (
+            'file', '-', '--brief', '--answers x', '--facilities 0', '--services 0', '--strict', '--whole', '--record 00', '--answer 0 0 0',
+            '--date 2026-11-16 --record 00', '--call 1', '--damaged')),
     )
 
     def test_each(self):
@@ -528,7 +700,7 @@ class Streams(Tool):
     """Standard streams that are closed, full or endless: one line on standard error and status 2."""
     SAMPLE = os.path.join(ROOT, 'samples', 'worked-run.records')
     WRITING = (['sample'], ['sample', '--hex'], ['withdrawal', '--out', '-'], ['explain', SAMPLE], ['explain', '--brief', SAMPLE],
-               ['explain', '--strict', '--record', '00'], ['explain', '--answer', '17', '0', '0'], ['--help'], ['explain', '--help'])
+               ['explain', '--strict', '--record', '00'], ['explain', '--answer', '17', '0', '0'], ['explain', '--period', '4'], ['--help'], ['explain', '--help'])
 
     def ended(self, words, text, unbuffered='', **streams):
         """Python's own buffers are there, or not: an empty setting is none."""
@@ -669,17 +841,49 @@ class Shown(Tool):
 
     def test_times(self):
         for line, label, text in (
-                ('clock --minute 0', 'minute', '0 (day 0, Monday, 00:00)'), ('clock --minute 1439', 'minute', '1439 (day 0, Monday, 23:59)'),
-                ('clock --minute 1440', 'minute', '1440 (day 1, Tuesday, 00:00)'), ('clock --minute 11585', 'minute', '11585 (day 8, Tuesday, 01:05)'),
+                ('clock --minute 0', 'minute', '0 (2024-01-01, Monday, 00:00; day 0)'), ('clock --minute 1439', 'minute', '1439 (2024-01-01, Monday, 23:59; day 0)'),
+                ('clock --minute 1440', 'minute', '1440 (2024-01-02, Tuesday, 00:00; day 1)'), ('clock --minute 11585', 'minute', '11585 (2024-01-09, Tuesday, 01:05; day 8)'),
                 ('clock --minute -1 --anyway', 'minute', '-1 (before day 0)'),
-                ('total --service 0 --period 340', 'period', '340 (day 7, Monday, 02:00 to 02:30; slot 4)'),
-                ('total --service 0 --period 335', 'period', '335 (day 6, Sunday, 23:30 to 24:00; slot 335)'),
-                ('total --service 0 --period 48', 'period', '48 (day 1, Tuesday, 00:00 to 00:30; slot 48)'),
+                ('total --service 0 --period 340', 'period', '340 (2024-01-08, Monday, period 5, 02:00 to 02:30; day 7, slot 4)'),
+                ('total --service 0 --period 335', 'period', '335 (2024-01-07, Sunday, period 48, 23:30 to 24:00; day 6, slot 335)'),
+                ('total --service 0 --period 48', 'period', '48 (2024-01-02, Tuesday, period 1, 00:00 to 00:30; day 1, slot 48)'),
                 ('total --service 0 --period -1 --anyway', 'period', '-1 (before day 0)'),
-                ('standing --facility 0 --service 0 --slot 335 --pairs 1@1', 'slot', '335 (Sunday, 23:30 to 24:00)'),
-                ('standing --facility 0 --service 0 --slot 48 --pairs 1@1', 'slot', '48 (Tuesday, 00:00 to 00:30)'),
+                ('standing --facility 0 --service 0 --slot 335 --pairs 1@1', 'slot', '335 (Sunday, period 48, 23:30 to 24:00)'),
+                ('standing --facility 0 --service 0 --slot 48 --pairs 1@1', 'slot', '48 (Tuesday, period 1, 00:00 to 00:30)'),
                 ('standing --facility 0 --service 0 --slot 336 --pairs 1@1 --anyway', 'slot', '336 (slots are 0 to 335)')):
             self.assertEqual(self.rows(line)[label], text, line)
+
+    def test_dates(self):
+        last, later = 'total --service 0 --period 1332431', 'total --service 0 --period 1332432'
+        for line, label, text in (
+                ('total --service 0 --period 50423', 'period', '50423 (2026-11-16, Monday, period 24, 11:30 to 12:00; day 1050, slot 23)'),
+                (last, 'period', '1332431 (2099-12-31, Thursday, period 48, 23:30 to 24:00; day 27758, slot 191)'),
+                (later, 'period', '1332432 (day 27759, Friday, period 1, 00:00 to 00:30; no date after 2099-12-31, slot 192)'),
+                ('clock --minute 39972959', 'minute', '39972959 (2099-12-31, Thursday, 23:59; day 27758)'),
+                ('clock --minute 39972960', 'minute', '39972960 (day 27759, Friday, 00:00; no date after 2099-12-31)'),
+                ('variation --facility 0 --service 0 --period 50423 --pairs 1@1', 'gate open',
+                 'up to minute 1512625 (2026-11-16, Monday, 10:25; day 1050); after it with a reason only'),
+                ('standing --facility 0 --service 0 --slot 23 --pairs 1@1', 'slot', '23 (Monday, period 24, 11:30 to 12:00)'),
+                ('outage --facility 0 --minute 1512700 --periods 3', 'window', 'periods 50424 to 50426 (2026-11-16 period 25 to 2026-11-16 period 27)'),
+                ('outage --facility 0 --minute 1513439 --periods 2', 'window', 'periods 50448 to 50449 (2026-11-17 period 1 to 2026-11-17 period 2)'),
+                ('outage --facility 0 --minute 39972930 --periods 1', 'window', 'periods 1332432 to 1332432 (day 27759 period 1 to day 27759 period 1)'),
+                ('outage --facility 0 --minute -1 --periods 1 --anyway', 'window', 'none'),
+                ('notice --kind 3 --first 50447 --last 50448', 'first period', '50447 (2026-11-16, Monday, period 48, 23:30 to 24:00; day 1050, slot 47)'),
+                ('notice --kind 3 --first 50447 --last 50448', 'last period', '50448 (2026-11-17, Tuesday, period 1, 00:00 to 00:30; day 1051, slot 48)')):
+            self.assertEqual(self.rows(line)[label], text, line)
+
+    def test_a_period_alone(self):
+        line = 'period 50423 (2026-11-16, Monday, period 24, 11:30 to 12:00; day 1050, slot 23)\n'
+        for words in ('--period 50423', '--date 2026-11-16 --period 24', '--period 24 --date 2026-11-16', '--period 1050/11:30', '--period 2026-11-16/11:30'):
+            self.assertEqual(self.explained(words), line +
+                             '  gate open  up to minute 1512625 (2026-11-16, Monday, 10:25; day 1050); after it with a reason only\n', words)
+        self.assertEqual(self.explained('--period 0'), 'period 0 (2024-01-01, Monday, period 1, 00:00 to 00:30; day 0, slot 0)\n'
+                                                       '  gate open  at no minute; with a reason only\n')
+        refused = self.explained('--answer 21 0 0')
+        self.assertEqual(self.explained('--period -1'), 'period -1 (before day 0)\n' + refused)
+        self.assertEqual(self.explained('--period 1332432'),
+                         'period 1332432 (day 27759, Friday, period 1, 00:00 to 00:30; no date after 2099-12-31, slot 192)\n' + refused)
+        self.assertIn('gate open', self.explained('--period 1332431'))
 
     def test_last_open_minute(self):
         """'A variation is open when 30 P - now is 65 or more.'"""
@@ -977,6 +1181,19 @@ class RoundTrip(Tool):
             self.check(['notice', '--kind', str(kind), '--first', str(first), '--last', str(last)],
                        {'notice': f'{kind} {text} notice', 'first period': str(first), 'last period': str(last)})
 
+    def test_dates(self):
+        dates = counted_dates()
+        for _ in range(100):
+            (day, number), (last_day, last) = sorted((self.random.randint(1, 27758), self.random.randint(1, 48)) for _ in range(2))
+            period, last_period = 48 * day + number - 1, 48 * last_day + last - 1
+            which, when = ['--service', 'energy'], ['--date', dates[day], '--period', str(number)]
+            self.check(['total', *which, *when], {'period': str(period)})
+            self.check(['look-up', '--facility', '5', *which, *when], {'period': str(period)})
+            self.check(['variation', '--facility', '5', *which, *when, '--pairs', '1@1'], {'period': str(period)})
+            self.check(['standing', '--facility', '5', *which, *when, '--pairs', '1@1'], {'slot': str(48 * (day % 7) + number - 1)})
+            self.check(['notice', '--kind', '3', '--date', dates[day], '--first', str(number), '--last-date', dates[last_day], '--last', str(last)],
+                       {'first period': str(period), 'last period': str(last_period)})
+
     def test_any_fields_at_all(self):
         """Words a book refuses come back too, with --anyway."""
         edge = (0, 1, -1, 2**31 - 1, -2**31, 99999, 100000)
@@ -999,16 +1216,16 @@ class Answers(Tool):
     LOOK_UP = '0 2 0 15 20 4000 500 -5000 200' + ' 0' * 16 + ' 700'
 
     def test_every_refusal(self):
-        for number in range(1, 21):
+        for number in range(1, 22):
             name, _, who, means, correct = REFUSALS[number]
             text = self.explained(f'--answer {number} 0 0')
             self.assertEqual(text, f'refused with {number}, {name}; drawn by {who}\n  means       {means}\n  to correct  {correct}\n  the book    unchanged\n')
             self.assertEqual(self.explained(f'--answer {number}' + ' 0' * 25), text)
-        self.assertEqual(sorted(REFUSALS), list(range(1, 21)))
+        self.assertEqual(sorted(REFUSALS), list(range(1, 22)))
 
     def test_who_draws_which(self):
         want = {'the host program': {1, 2, 20}, 'any sender': {3, 4, 5}, 'the clock': {6}, 'the system operator': {7, 8},
-                'the coordinator': set(range(9, 19)) - {10}, 'the coordinator or reader': {10}, 'the reader': {19}}
+                'the coordinator': {*range(9, 19), 21} - {10}, 'the coordinator or reader': {10}, 'the reader': {19}}
         for who, numbers in want.items():
             self.assertEqual({number for number, refusal in REFUSALS.items() if refusal.drawn_by == who}, numbers)
 
@@ -1044,7 +1261,7 @@ class Answers(Tool):
                                                          '  pair 1        5.0 MW at $1.00/MWh', '  pairs 2 to 5  blank'])
 
     def test_damaged(self):
-        for line in ('17 1 0', '17 0 5', '0 1 700 --call clock', '0 5 700 --call look-up', '0 0 700 --call look-up', '0 65 0 --call total', '0 -1 0',
+        for line in ('17 1 0', '17 0 5', '21 0 0 --call look-up', '0 1 700 --call clock', '0 5 700 --call look-up', '0 0 700 --call look-up', '0 65 0 --call total', '0 -1 0',
                      self.LOOK_UP[:-3] + '701', '0 1 1' + ' 0' * 22 + ' 5 --call total'):
             self.assertIn('damaged answer', self.explained(f'--answer {line}'), line)
 
@@ -1062,7 +1279,7 @@ class Answers(Tool):
         offer = {9, 10, 11, 12, 13, 14, 15, 16, 17}
         for call, numbers in {1: {6}, 2: {3, 8}, 3: {3, 5, 18} | offer, 4: {3, 5} | offer, 5: {3, 5, 7}, 6: {7}, 7: {7},
                               8: {3, 5, 10, 19}, 9: {3, 10}}.items():
-            self.assertEqual({number for number in range(1, 21) if draws(call, number)}, {1, 2, 4} | numbers, call)
+            self.assertEqual({number for number in range(1, 22) if draws(call, number)}, {1, 2, 4} | numbers, call)
 
     def test_more_facilities_than_the_book_has(self):
         self.assertEqual(self.explained('--answer 0 3 30 --call total --facilities 3'), '3 facilities have an offer in force, 3.0 MW in all\n')
@@ -1105,7 +1322,7 @@ class Strict(Tool):
         stray[13] = 1
         for data, answer, sizes, wrong in (
                 (right, '0 1 5', '', []), (right, '3 0 0', '', []), (right, '2 0 0', '', ['answer']), (right, '4 0 0', '', ['answer']),
-                (right, '1 0 0', '', []), (right, '20 0 0', '', ['answer']), (right, '3 0 0', '--facilities 4 --services 5', ['answer']),
+                (right, '1 0 0', '', []), (right, '20 0 0', '', ['answer']), (right, '21 0 0', '', ['answer']), (right, '3 0 0', '--facilities 4 --services 5', ['answer']),
                 (right, '0 1 5', '--facilities 3 --services 5', ['record', 'answer']), (right, '3 0 0', '--facilities 3 --services 5', ['record']),
                 (right[:-1], '2 0 0', '', ['record']), (right[:-1], '0 1 5', '', ['record', 'answer']), (right[:-1], '1 0 0', '', ['record']),
                 (stray, '4 0 0', '', ['record']), (stray, '3 0 0', '', ['record']), (stray, '0 1 5', '', ['record', 'answer']),
@@ -1153,37 +1370,37 @@ class Brief(Tool):
             '0 1 0 15 15 4000 500 5000 200' + zeros + ' 700', '0 2 0 15 15 -450000 99 4000 1200' + zeros + ' 1299',
             '0 1' + ' 0' * 24, '19' + ' 0' * 25, '10' + ' 0' * 25]), [
                 'look-up, facility 2, energy',
-                'no.  period     day  time   in force       MW  pairs, MW @ $/MWh',
-                '  1      96   2 Wed  00:00  standing     70.0  50.0 @    40.00   20.0 @ 50.00',
-                '  2      97   2 Wed  00:30  variation   129.9   9.9 @ -4500.00  120.0 @ 40.00',
-                '  3      98   2 Wed  01:00  standing      0.0',
-                '  4      99   2 Wed  01:30  refused 19         nothing in force',
-                '  5    1000  20 Sun  20:00  refused 10         period refused: begun or past the horizon'])
+                'no.  period             day  1-48  time   in force       MW  pairs, MW @ $/MWh',
+                '  1      96  2024-01-03 Wed     1  00:00  standing     70.0  50.0 @    40.00   20.0 @ 50.00',
+                '  2      97  2024-01-03 Wed     2  00:30  variation   129.9   9.9 @ -4500.00  120.0 @ 40.00',
+                '  3      98  2024-01-03 Wed     3  01:00  standing      0.0',
+                '  4      99  2024-01-03 Wed     4  01:30  refused 19         nothing in force',
+                '  5    1000  2024-01-21 Sun    41  20:00  refused 10         period refused: begun or past the horizon'])
 
     def test_fresh_offers(self):
         """What fresh means stands once, below."""
         line = ' then '.join(f'look-up --facility 2 --service energy --period {period}' for period in (96, 97, 98))
         self.assertEqual(self.table(line, ['0 3 0 15 15 4000 500' + ' 0' * 18 + ' 500', '0 2 30', '0 4' + ' 0' * 23 + ' 0']), [
             'look-up, facility 2, energy',
-            'no.  period    day  time   in force            MW  pairs, MW @ $/MWh',
-            '  1      96  2 Wed  00:00  standing, fresh   50.0  50.0 @ 40.00',
-            '  2      97  2 Wed  00:30  variation          3.0',
-            '  3      98  2 Wed  01:00  variation, fresh   0.0',
+            'no.  period             day  1-48  time   in force            MW  pairs, MW @ $/MWh',
+            '  1      96  2024-01-03 Wed     1  00:00  standing, fresh   50.0  50.0 @ 40.00',
+            '  2      97  2024-01-03 Wed     2  00:30  variation          3.0',
+            '  3      98  2024-01-03 Wed     3  01:00  variation, fresh   0.0',
             f'fresh: {FRESH}'])
 
     def test_the_worked_run(self):
         """An answer of three numbers has no pairs: they are those of the filing before it."""
         self.assertEqual(self.table('sample', PRINTED), [
-            'no.  call            facility  service  period    day  time   answer              MW  pairs, MW @ $/MWh',
-            '  1  capability             0                                 accepted                generation, 130.0 MW, combined 80.0 MW, registered for energy',
-            '  2  standing offer         0  energy   slot 4    Mon  02:00  accepted          70.0  50.0 @ 40.00  20.0 @ 50.00',
-            '  3  look-up                0  energy        4  0 Mon  02:00  standing, fresh   70.0  50.0 @ 40.00  20.0 @ 50.00',
-            '  4  variation              0  energy        4  0 Mon  02:00  accepted          30.0  30.0 @ 40.00',
-            '  5  look-up                0  energy        4  0 Mon  02:00  variation, fresh  30.0  30.0 @ 40.00',
-            '  6  total                     energy        4  0 Mon  02:00  1 facility        30.0',
-            '  7  look-up                0  energy      340  7 Mon  02:00  refused 10              period refused: begun or past the horizon',
-            '  8  clock                                      1 Tue  00:00  accepted',
-            '  9  look-up                0  energy      340  7 Mon  02:00  standing          70.0  50.0 @ 40.00  20.0 @ 50.00',
+            'no.  call            facility  service  period             day  1-48  time   answer              MW  pairs, MW @ $/MWh',
+            '  1  capability             0                                                accepted                generation, 130.0 MW, combined 80.0 MW, registered for energy',
+            '  2  standing offer         0  energy   slot 4             Mon     5  02:00  accepted          70.0  50.0 @ 40.00  20.0 @ 50.00',
+            '  3  look-up                0  energy        4  2024-01-01 Mon     5  02:00  standing, fresh   70.0  50.0 @ 40.00  20.0 @ 50.00',
+            '  4  variation              0  energy        4  2024-01-01 Mon     5  02:00  accepted          30.0  30.0 @ 40.00',
+            '  5  look-up                0  energy        4  2024-01-01 Mon     5  02:00  variation, fresh  30.0  30.0 @ 40.00',
+            '  6  total                     energy        4  2024-01-01 Mon     5  02:00  1 facility        30.0',
+            '  7  look-up                0  energy      340  2024-01-08 Mon     5  02:00  refused 10              period refused: begun or past the horizon',
+            '  8  clock                                      2024-01-02 Tue        00:00  accepted',
+            '  9  look-up                0  energy      340  2024-01-08 Mon     5  02:00  standing          70.0  50.0 @ 40.00  20.0 @ 50.00',
             f'fresh: {FRESH}'])
 
     def test_a_variation_taken_back(self):
@@ -1193,15 +1410,15 @@ class Brief(Tool):
                               varied + '--reason outage --take-back', 'standing --facility 0 --service energy --slot 5 --pairs 0@0'))
         self.assertEqual(self.table(line, ['0 0 0', '0 0 0', '0 0 0', '0 1 500', '17 0 0', '0 0 0']), [
             'facility 0, energy',
-            'no.  call            period    day  time   answer        MW  pairs, MW @ $/MWh',
-            '  1  standing offer  slot 4    Mon  02:00  accepted    50.0  50.0 @ 40.00',
-            '  2  variation            4  0 Mon  02:00  accepted    30.0  30.0 @ 40.00',
-            '  3  variation            4  0 Mon  02:00  accepted          takes the variation back: the standing offer stands again, if there is one',
-            '  4  look-up              4  0 Mon  02:00  standing    50.0  50.0 @ 40.00',
-            '  5  variation            4  0 Mon  02:00  refused 17        gate closed',
-            '  6  standing offer  slot 5    Mon  02:30  accepted     0.0'])
+            'no.  call            period             day  1-48  time   answer        MW  pairs, MW @ $/MWh',
+            '  1  standing offer  slot 4             Mon     5  02:00  accepted    50.0  50.0 @ 40.00',
+            '  2  variation            4  2024-01-01 Mon     5  02:00  accepted    30.0  30.0 @ 40.00',
+            '  3  variation            4  2024-01-01 Mon     5  02:00  accepted          takes the variation back: the standing offer stands again, if there is one',
+            '  4  look-up              4  2024-01-01 Mon     5  02:00  standing    50.0  50.0 @ 40.00',
+            '  5  variation            4  2024-01-01 Mon     5  02:00  refused 17        gate closed',
+            '  6  standing offer  slot 5             Mon     6  02:30  accepted     0.0'])
         self.assertEqual(self.table(varied + '--take-back', None)[-1],
-                         '  1       4  0 Mon  02:00  takes the variation back: the standing offer stands again, if there is one')
+                         '  1       4  2024-01-01 Mon     5  02:00  takes the variation back: the standing offer stands again, if there is one')
         damaged = self.table(varied + '--pairs 300@4000 then ' + varied + '--take-back then ' + read_it, ['0 0 0', '0 0 0', '0 2 300'])
         self.assertTrue(damaged[-1].endswith('variation  30.0'))
 
@@ -1209,29 +1426,47 @@ class Brief(Tool):
         line = ('outage --facility 1 --minute 100 --periods 3 then notice --kind shortfall --first 4 --last 9 then withdrawal'
                 ' then total --service regulation --period 5')
         self.assertEqual(self.table(line, ['0 0 0', '7 0 0', '0 0 0', '0 2 30']), [
-            'no.  call        facility  service     period    day  time   answer         MW',
-            '  1  outage             1                      0 Mon  01:40  accepted           periods 4 to 6',
-            '  2  notice                                                  refused 7          notice refused: notice out of range',
-            '  3  withdrawal                                              accepted           system status notice',
-            '  4  total                 regulation       5  0 Mon  02:30  2 facilities  3.0'])
+            'no.  call        facility  service     period             day  1-48  time   answer         MW',
+            '  1  outage             1                      2024-01-01 Mon        01:40  accepted           periods 4 to 6 (2024-01-01 period 5 to 2024-01-01 period 7)',
+            '  2  notice                                                                 refused 7          notice refused: notice out of range',
+            '  3  withdrawal                                                             accepted           system status notice',
+            '  4  total                 regulation       5  2024-01-01 Mon     6  02:30  2 facilities  3.0'])
+
+    def test_dates(self):
+        """The last one, and the day's number after it; a notice over midnight."""
+        line = ('total --service 0 --period 1332431 then total --service 0 --period 1332432 then clock --minute 39972960 then notice --kind surplus'
+                ' --date 2026-11-16 --first 48 --last-date 2026-11-17 --last 1 then standing --facility 0 --service 0 --weekday Thu --period 24 --pairs 1@1'
+                ' then notice --kind surplus --first -1 --last 5 --anyway then standing --facility 0 --service 0 --slot 336 --pairs 1@1 --anyway')
+        self.assertEqual(self.table(line, None), [
+            'no.  call            facility  service    period             day  1-48  time    MW  pairs, MW @ $/MWh',
+            '  1  total                     energy    1332431  2099-12-31 Thu    48  23:30',
+            '  2  total                     energy    1332432       27759 Fri     1  00:00',
+            '  3  clock                                             27759 Fri        00:00',
+            '  4  notice                                                                         energy surplus notice, periods 50447 to 50448'
+            ' (2026-11-16 period 48 to 2026-11-17 period 1)',
+            '  5  standing offer         0  energy   slot 167             Thu    24  11:30  0.1  0.1 @ 0.01',
+            '  6  notice                                                                         energy surplus notice, periods -1 to 5'
+            ' (before day 0 to 2024-01-01 period 6)',
+            '  7  standing offer         0  energy   slot 336                               0.1  0.1 @ 0.01'])
 
     def test_a_link(self):
         line = ('capability --facility 1 --kind link --max-generation 100MW --max-combined 100MW --registered energy'
                 ' then outage --facility 1 --minute 100 --periods 3 then standing --facility 1 --service primary --slot 4 --pairs 1@1')
         self.assertEqual(self.table(line, ['0 0 0', '7 0 0', '9 0 0']), [
             'facility 1',
-            'no.  call            service          period    day  time   answer',
-            '  1  capability                                             accepted   link, 100.0 MW, combined 100.0 MW, registered for energy',
-            '  2  outage                                   0 Mon  01:40  refused 7  notice refused: outage out of range, or of a link',
-            "  3  standing offer  primary reserve  slot 4    Mon  02:00  refused 9  not registered: the facility isn't registered for the service"])
+            'no.  call            service          period             day  1-48  time   answer',
+            '  1  capability                                                            accepted   link, 100.0 MW, combined 100.0 MW, registered for energy',
+            '  2  outage                                   2024-01-01 Mon        01:40  refused 7  notice refused: outage out of range, or of a link',
+            "  3  standing offer  primary reserve  slot 4             Mon     5  02:00  refused 9  not registered: the facility isn't registered for the service"])
 
     def test_without_answers(self):
         self.assertEqual(self.table('variation --facility 0 --service primary --period 5 --proportion 5 --mw 1@2,0@0,3@4', None), [
-            'variation, facility 0, primary reserve', 'no.  period    day  time    MW  pairs, MW @ $/MWh', '  1       5  0 Mon  02:30  4.0  1.0 @ 2.00  3.0 @ 4.00'])
+            'variation, facility 0, primary reserve', 'no.  period             day  1-48  time    MW  pairs, MW @ $/MWh',
+            '  1       5  2024-01-01 Mon     6  02:30  4.0  1.0 @ 2.00  3.0 @ 4.00'])
         self.assertEqual(self.explained('--brief --record 534f').splitlines(), [
             'no.  call       record test', '  1  no record  refused 2    not a record: 2 bytes, 110 too few; mark 534f, not 534f42 (SOB); version missing, not 0001;'
             ' call missing, not 1 to 9'])
-        self.assertEqual(self.table('sample', None)[2], '  2  standing offer         0  energy   slot 4    Mon  02:00  70.0  50.0 @ 40.00  20.0 @ 50.00')
+        self.assertEqual(self.table('sample', None)[2], '  2  standing offer         0  energy   slot 4             Mon     5  02:00  70.0  50.0 @ 40.00  20.0 @ 50.00')
 
     def test_damage(self):
         self.assertEqual(self.table('withdrawal then withdrawal', ['0 1 0', '17 0 0'])[-2:], [
@@ -1256,7 +1491,7 @@ class Brief(Tool):
             for _ in range(chance.randint(0, 40)):
                 data[chance.randrange(len(data))] = chance.choice((0, 1, 2, 9, 255, chance.randint(0, 255)))
             pieces = [bytes(data[n:n + 112]) for n in range(0, len(data) - chance.randint(0, 112), 112)]
-            answers = [read_answer(f"{chance.randint(0, 20)} {chance.choice((0, 0, 1, 2, 3, 4, 5))} {chance.choice((0, 0, 700))}") for _ in pieces]
+            answers = [read_answer(f"{chance.randint(0, 21)} {chance.choice((0, 0, 1, 2, 3, 4, 5))} {chance.choice((0, 0, 700))}") for _ in pieces]
             for given in (answers, [None] * len(pieces)):
                 lines = brief_lines(brief_rows(pieces, given, Book()), given is answers)
                 self.assertEqual(lines[-1] == f'fresh: {FRESH}', any(', fresh' in line for line in lines[:-1]))
@@ -1382,8 +1617,8 @@ class Header(unittest.TestCase):
                          [records_layout.LENGTH, records_layout.MOST_FACILITIES, records_layout.MOST_SERVICES, energy, primary, records_layout.LAST_CLOCK,
                           records_layout.LAST_NOTICE_PERIOD, records_layout.LARGEST_LIMIT, records_layout.SCHEDULE_CUTOFF_MINUTES])
         self.assertEqual([record_test(build(1), 1, services)[0] for services in self.these('SERVICES_ONE', 'SERVICES_ALL')], [0, 0])
-        self.assertEqual(records_amounts.period('0/00:30') * self.numbers['PERIOD_MINUTES'], records_amounts.minute('0/00:30'))
-        self.assertIn(f"slot {1000 % self.numbers['WEEK_SLOTS']})", records_amounts.show_period(1000))
+        self.assertEqual(records_dates.period('0/00:30') * self.numbers['PERIOD_MINUTES'], records_dates.minute('0/00:30'))
+        self.assertIn(f"slot {1000 % self.numbers['WEEK_SLOTS']})", records_dates.show_period(1000))
         rows = '\n'.join(explain_record(build(4, period=100), 64, 5))
         self.assertIn(f"up to minute {100 * self.numbers['PERIOD_MINUTES'] - self.numbers['GATE_MINUTES']} ", rows)
 
@@ -1435,7 +1670,7 @@ class Header(unittest.TestCase):
         """The enum of numbers, line by line: number, name, and what its comment says."""
         numbers = self.text[self.text.index('BILZHAAN_ACCEPTED = 0'):]
         lines = re.findall(r'BILZHAAN_(\w+) = (\d+),? *(?:/\* (.*?) \*/)?\n', numbers[:numbers.index('};')])
-        self.assertEqual(len(lines), 21)
+        self.assertEqual(len(lines), 22)
         for name, number, note in lines[1:]:
             refusal = REFUSALS[int(number)]
             self.assertEqual((refusal.name.replace("'", '').replace(' ', '_').upper(), refusal.note), (name, note))
@@ -1449,11 +1684,11 @@ class Header(unittest.TestCase):
 
 
 class RefusalsPage(unittest.TestCase):
-    """docs/REFUSALS.md: a row for each number and reason, and its table of gate closure worked out again."""
+    """docs/REFUSALS.md: a row for each number and reason, and its table of gate closure and its date worked out again."""
 
     def setUp(self):
-        self.rows = [[cell.strip() for cell in line.strip('|').split('|')] for line in contents(ROOT, 'docs', 'REFUSALS.md').decode().splitlines()
-                     if line.startswith('| ')]
+        self.text = contents(ROOT, 'docs', 'REFUSALS.md').decode()
+        self.rows = [[cell.strip() for cell in line.strip('|').split('|')] for line in self.text.splitlines() if line.startswith('| ')]
         self.reasons, self.kinds = self.table('Reason'), self.table('Kind')
 
     def table(self, head):
@@ -1463,7 +1698,7 @@ class RefusalsPage(unittest.TestCase):
 
     def test_a_row_for_each(self):
         numbers = [int(row[0]) for row in self.rows if len(row) == 5 and row[0].isdigit()]
-        self.assertEqual(numbers, list(range(1, 21)))
+        self.assertEqual(numbers, list(range(1, 22)))
         self.assertEqual([int(row[0].split()[0]) for row in self.reasons], list(range(1, 7)))
         self.assertEqual([row[0] for row in self.kinds], [f'{number} {name}' for number, name in KIND_NAMES.items()])
 
@@ -1496,6 +1731,15 @@ class RefusalsPage(unittest.TestCase):
             open_to = [number for number, reason in enumerate(self.reasons, 1) if reason[column] == 'open']
             self.assertEqual((open_to, {reason[column] for reason in self.reasons}), (list(kind.reasons), {'open', 'shut'}))
         self.assertEqual(next(row for row in self.rows if row[0] == 'Reason')[1:4], [name.capitalize() for name in KIND_NAMES.values()])
+
+    def test_its_date(self):
+        """The sentence's day, P, weekday and slot, and its options."""
+        said = re.search(r'period (\d+) of 16 November 2026 is on day (\d+), P (\d+), and on a (\w+), slot (\d+)\.', self.text)
+        of_day, day, period, weekday, slot = said.groups()
+        self.assertEqual(int(day), counted_dates().index('2026-11-16'))
+        self.assertEqual(records_dates.show_period(int(period)), f'{period} (2026-11-16, {weekday}, period {of_day}, 11:30 to 12:00; day {day}, slot {slot})')
+        self.assertIn(f'`--date 2026-11-16 --period {of_day}`', self.text)
+        self.assertIn(f'`--period {period}`', self.text)
 
     def test_gate_closure(self):
         days = ('Mon', 'Tue', 'Wed', 'Thu', 'Fri', 'Sat', 'Sun')

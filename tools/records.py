@@ -6,10 +6,11 @@ import sys
 sys.dont_write_bytecode = True
 
 from records_amounts import BadArgument, within  # noqa: E402
-from records_answers import Book, damage, explain_answer, read_answer  # noqa: E402
+from records_answers import Book, damage, explain_answer, read_answer, refusal_lines  # noqa: E402
 from records_arguments import HelpAsked, parse_run  # noqa: E402
 from records_brief import brief_lines, brief_rows  # noqa: E402
-from records_explain import CAPABILITY, explain_record  # noqa: E402
+from records_dates import DATE_REFUSED, LAST_DATED_PERIOD, show_period  # noqa: E402
+from records_explain import CAPABILITY, aligned, explain_record, open_row  # noqa: E402
 from records_files import append_records, hex_bytes, read_records, read_answers  # noqa: E402
 from records_layout import CALLS, LENGTH, SERVICES, any_book_refuses, build, form_faults, offer_fields, read, record_test  # noqa: E402
 from records_streams import BadStream, complain, is_terminal, write_file, write_lines, write_output  # noqa: E402
@@ -100,7 +101,11 @@ def write_records(records, run):
 
 def check_sources(options):
     """Each thing to be explained is given once, and from one place."""
-    if options.answer is not None:
+    if options.period is not None:
+        given = {name for name, value in vars(options).items() if value is not None and value is not False}
+        if given - {'command', 'error', 'period', 'date'}:
+            raise BadArgument('explain: --period stands alone, or with --date')
+    elif options.answer is not None:
         if options.file is not None or options.record is not None or options.answers is not None or options.whole or options.brief:
             raise BadArgument('explain: --answer stands alone, or with --call')
         if options.call is not None and options.call not in CALLS and not options.damaged:
@@ -114,6 +119,11 @@ def check_sources(options):
         raise BadArgument('explain: standard input cannot hold the records and the answers')
     elif options.file is None and is_terminal(sys.stdin):
         raise BadArgument('explain: nothing to explain: give FILE, --record HEX or --answer N N N')
+
+
+def period_lines(period):
+    has_date = 0 <= period <= LAST_DATED_PERIOD
+    return [f'period {show_period(period)}'] + (aligned([open_row(period)]) if has_date else refusal_lines(DATE_REFUSED))
 
 
 def call_and_service(data):
@@ -152,6 +162,9 @@ def strict_status(wrong):
 def explain(options):
     """The exit status. Everything is read before anything is written."""
     check_sources(options)
+    if options.period is not None:
+        write_lines(period_lines(options.period))
+        return 0
     book = Book(options.facilities, options.services)
     if options.answer is not None:
         answer = read_answer(' '.join(options.answer))

@@ -1,9 +1,8 @@
-"""Amounts and times between a person's words and the record's whole numbers (document 01, "Units and time").
+"""Amounts between a person's words and the record's whole numbers (document 01, "Units and time").
 Every amount is exact: there are no floating-point numbers, and what does not come out whole is refused."""
 import argparse
 import re
 
-WEEKDAYS = ('Monday', 'Tuesday', 'Wednesday', 'Thursday', 'Friday', 'Saturday', 'Sunday')
 LEAST_WORD, MOST_WORD = -2**31, 2**31 - 1
 
 
@@ -108,43 +107,6 @@ def mw_pairs(text):
     return pair_list(text, megawatts, dollars)
 
 
-def time_of_day(text, whole_text):
-    match = re.fullmatch(r'([0-9]{2}):([0-9]{2})', text)
-    if not match or int(match.group(1)) > 23 or int(match.group(2)) > 59:
-        raise BadArgument(f"'{whole_text}': '{text}' is not a time of day, 00:00 to 23:59")
-    return 60 * int(match.group(1)) + int(match.group(2))
-
-
-def minute(text):
-    """A whole minute from the start of day 0, or DAY/HH:MM."""
-    if '/' not in text:
-        return word(text)
-    day, time = text.split('/', 1)
-    return within(1440 * within(whole(day), 0, MOST_WORD, 'day') + time_of_day(time, text), 0, MOST_WORD, 'minute')
-
-
-def half_hour(minutes, text):
-    if minutes % 30:
-        raise BadArgument(f"'{text}': a period starts at :00 or :30")
-    return minutes // 30
-
-
-def period(text):
-    """A period's number, or the DAY/HH:MM at which it starts."""
-    return half_hour(minute(text), text) if '/' in text else word(text)
-
-
-def slot(text):
-    """A slot's number, or the weekday and time at which it starts: Mon/02:00."""
-    if '/' not in text:
-        return word(text)
-    day, time = text.split('/', 1)
-    days = [name[:3].lower() for name in WEEKDAYS]
-    if day.lower() not in days:
-        raise BadArgument(f"'{text}': '{day}' is not one of Mon, Tue, Wed, Thu, Fri, Sat, Sun")
-    return 48 * days.index(day.lower()) + half_hour(time_of_day(time, text), text)
-
-
 # ---- showing
 
 def show_parts(value, places):
@@ -166,33 +128,3 @@ def show_price(cents):
 
 def show_proportion(thousandths):
     return show_parts(thousandths, 3)
-
-
-def show_time(minutes):
-    return f'{minutes // 60:02d}:{minutes % 60:02d}'
-
-
-def show_minute(value):
-    if value < 0:
-        return f'{value} (before day 0)'
-    day = value // 1440
-    return f'{value} (day {day}, {WEEKDAYS[day % 7]}, {show_time(value % 1440)})'
-
-
-def show_weekly(value):
-    """A minute of any week, by weekday and time."""
-    return f'{WEEKDAYS[value // 1440 % 7]}, {show_time(value % 1440)}'
-
-
-def show_period(value):
-    if value < 0:
-        return f'{value} (before day 0)'
-    day, start = value // 48, 30 * (value % 48)
-    return f'{value} (day {day}, {WEEKDAYS[day % 7]}, {show_time(start)} to {show_time(start + 30)}; slot {value % 336})'
-
-
-def show_slot(value):
-    if not 0 <= value <= 335:
-        return f'{value} (slots are 0 to 335)'
-    start = 30 * (value % 48)
-    return f'{value} ({WEEKDAYS[value // 48]}, {show_time(start)} to {show_time(start + 30)})'

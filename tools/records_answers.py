@@ -14,7 +14,7 @@ def read_answer(text):
     numbers = [whole(part) for part in text.split()]
     if len(numbers) not in (3, 26):
         raise BadArgument(f'an answer is 3 numbers (number, word 0, sum) or 26 (number, 24 words, sum), not {len(numbers)}')
-    within(numbers[0], 0, 20, 'number')
+    within(numbers[0], 0, max(REFUSALS), 'number')
     for value in numbers[1:-1]:
         within(value, LEAST_WORD, MOST_WORD, 'word')
     within(numbers[-1], -2**63, 2**63 - 1, 'sum')
@@ -98,9 +98,9 @@ class Book:
 
 # ---- lines
 
-def refusal_lines(answer):
-    refusal = REFUSALS[answer.number]
-    lines = [f'refused with {answer.number}, {refusal.name}; drawn by {refusal.drawn_by}']
+def refusal_lines(number):
+    refusal = REFUSALS[number]
+    lines = [f'refused with {number}, {refusal.name}; drawn by {refusal.drawn_by}']
     return lines + aligned([('means', refusal.means), ('to correct', refusal.correct), ('the book', 'unchanged')])
 
 
@@ -133,7 +133,7 @@ def any_call_lines(answer, service, facilities):
 
 def answer_lines(answer, call, service, facilities):
     if answer.number:
-        return refusal_lines(answer)
+        return refusal_lines(answer.number)
     if call is None:
         return any_call_lines(answer, service, facilities)
     if call == 8 and answer.words[0] in IN_FORCE:

@@ -4,7 +4,8 @@ import argparse
 import re
 from functools import lru_cache
 
-from records_amounts import BadArgument, minute, mw_pairs, pairs, period, proportion, quantity, ramp, slot, whole, within, word
+from records_amounts import BadArgument, mw_pairs, pairs, proportion, quantity, ramp, whole, within, word
+from records_dates import FIRST_YEAR, LAST_YEAR, date, minute, period, period_of, slot, weekday
 from records_explain import CAPABILITY
 from records_layout import CALLS, KINDS, KIND_NAMES, NOTICES, OUTAGES, REASONS, SERVICES, alternatives, kinds_with
 
@@ -21,7 +22,8 @@ Each has its own --help. For example:
       --max-combined 80.0MW --registered energy --append day.records
   records.py standing --facility 0 --service energy --slot Mon/02:00 \\
       --mw 50.0@40.00,20.0@50.00 --append day.records
-  records.py variation --facility 0 --service energy --period 4 --pairs 300@4000 --hex
+  records.py variation --facility 0 --service energy --date 2026-11-16 --period 24 \\
+      --pairs 300@4000 --hex
   records.py clock --minute 1/00:00 then total --service energy --period 340 > two.records
   records.py explain --brief day.records --answers day.answers
   records.py explain --answer 17 0 0
@@ -29,8 +31,9 @@ Each has its own --help. For example:
 Amounts are exact. A plain whole number is in the record's unit: tenths of a MW, tenths of a MW
 per minute, thousandths. With its unit written it is read in that: 130.0MW, 1.5MW/min, 62.5%.
 Pairs are tenths@cents after --pairs, MW@dollars after --mw.
-Minutes count from the start of day 0, a Monday, or are DAY/HH:MM. Period P starts at minute
-30 P, or is the DAY/HH:MM of its start. Slots are 0 to 335, or Mon/02:00.
+Minutes count from the start of day 0, Monday 2024-01-01, or are DAY/HH:MM, DAY a number or a
+date. Period P starts at minute 30 P, or is the DAY/HH:MM of its start; beside --date it is one
+of the day's, 1 to 48. Slots are 0 to 335, or Mon/02:00, or --weekday or --date with --period.
 'then' joins several calls into one run of records. For FILE, - is standard input or output.
 
 A record that any book refuses, whatever it holds, is not made unless --anyway is given.
@@ -156,19 +159,22 @@ def add_offer_options(parser, is_variation):
 OPTIONS = {
     '--facility': dict(type=facility, metavar='N', help='facility, from 0'),
     '--service': dict(type=service, metavar='SERVICE', help=', '.join(SERVICES) + ', or 0 to 4'),
-    '--period': dict(type=period, metavar='P', help='period P, or DAY/HH:MM of its start'),
+    '--period': dict(metavar='P', help='period P, or DAY/HH:MM of its start; with --date 1 to 48'),
+    '--date': dict(type=date, metavar='YYYY-MM-DD', help=f'date of {FIRST_YEAR} to {LAST_YEAR}: 2026-11-16'),
     '--slot': dict(type=slot, metavar='SLOT', help='slot 0 to 335, or weekday and time: Mon/02:00'),
+    '--weekday': dict(type=weekday, metavar='DAY', help='Mon to Sun'),
     '--minute': dict(type=minute, metavar='M', help='minute from the start of day 0, or DAY/HH:MM'),
     '--periods': dict(type=word, metavar='N', help=f'count of periods after the one that holds the minute: {OUTAGES}'),
-    '--first': dict(type=period, metavar='P', help='first period of the notice'),
-    '--last': dict(type=period, metavar='P', help='last period of the notice'),
+    '--first': dict(metavar='P', help='first period of the notice; with --date 1 to 48'),
+    '--last': dict(metavar='P', help='last period of the notice, likewise'),
+    '--last-date': dict(type=date, metavar='YYYY-MM-DD', help="the last period's date, where it is another"),
 }
 
 # command: what it is, its options
 COMMANDS = {
     'clock': ('call 1: sets the clock', ['--minute']),
     'capability': ('call 2: files what a facility can do', ['--facility']),
-    'standing': ('call 3: files a standing offer for a slot of every week', ['--facility', '--service', '--slot']),
+    'standing': ('call 3: files a standing offer for a slot of every week', ['--facility', '--service']),
     'variation': ('call 4: files a variation for one period, or takes it back', ['--facility', '--service', '--period']),
     'outage': ('call 5: reports a forced outage', ['--facility', '--minute', '--periods']),
     'notice': ('call 6: files an advisory notice', ['--first', '--last']),
@@ -177,10 +183,19 @@ COMMANDS = {
     'total': ('call 9: asks for the sum of the offers in force', ['--service', '--period']),
 }
 
+MAY_BE_GIVEN = {'variation': ['--date'], 'notice': ['--date', '--last-date'], 'look-up': ['--date'], 'total': ['--date']}
+
 
 def add_call_options(name, parser):
     for option in COMMANDS[name][1]:
         parser.add_argument(option, action=Once, required=True, **OPTIONS[option])
+    for option in MAY_BE_GIVEN.get(name, ()):
+        parser.add_argument(option, action=Once, **OPTIONS[option])
+    if name == 'standing':
+        one = parser.add_mutually_exclusive_group(required=True)
+        for option in ('--slot', '--date', '--weekday'):
+            one.add_argument(option, action=Once, **OPTIONS[option])
+        parser.add_argument('--period', action=Once, metavar='N', help='period 1 to 48 of that date or weekday')
     if name == 'capability':
         parser.add_argument('--kind', type=named(KIND_NAMES, 'kind'), action=Once, required=True, metavar='KIND',
                             help=', '.join(KIND_NAMES.values()) + f', or 1 to {len(KIND_NAMES)}')
@@ -219,15 +234,19 @@ def add_explain_options(parser):
     parser.add_argument('--answer', nargs='+', metavar='N', action=Once, help='an answer alone: number, word 0, sum; or number, 24 words, sum')
     parser.add_argument('--call', type=call, action=Once, metavar='CALL', help='the call that --answer answers: ' + ', '.join(CALLS.values()) + ', or 1 to 9')
     parser.add_argument('--damaged', action='store_true', help='let --call be none of the nine')
+    parser.add_argument('--period', action=Once, metavar='P', help='a period alone: P, or DAY/HH:MM of its start; with --date 1 to 48')
+    parser.add_argument('--date', action=Once, **OPTIONS['--date'])
 
 
 @lru_cache(maxsize=1)
 def parser_of_all():
-    others = {'sample': "writes document 01's worked run, nine records", 'explain': 'says what records and answers mean'}
+    others = {'sample': "writes document 01's worked run, nine records", 'explain': 'says what records, answers and periods mean'}
     texts = {**{name: text for name, (text, _) in COMMANDS.items()}, **others}
     top = TopParser(prog='records.py', description=TOP.format(commands='\n'.join(f'  {name:<12}{text}' for name, text in texts.items())))
     commands = top.add_subparsers(dest='command', required=True, metavar='COMMAND', parser_class=Parser)
     parsers = {name: commands.add_parser(name, description=text) for name, text in texts.items()}
+    for parser in parsers.values():
+        parser.set_defaults(error=parser.error)
     for name in COMMANDS:
         add_call_options(name, parsers[name])
     add_output_options(parsers['sample'])
@@ -247,6 +266,49 @@ def with_values(words):
     return joined
 
 
+# ---- periods, read once it is known what stands beside them
+
+def settle_period(options, name, day):
+    """Beside a day, one of its periods 1 to 48."""
+    text = getattr(options, name)
+    try:
+        setattr(options, name, period(text) if day is None else period_of(day, text))
+    except BadArgument as error:
+        options.error(f'argument --{name}: {error}')
+
+
+def settle_slot(options):
+    """A weekday stands for its day of the first week."""
+    if options.slot is not None:
+        if options.period is not None:
+            options.error('--period goes with --date or --weekday, not with --slot')
+        return
+    if options.period is None:
+        options.error('--date and --weekday go with --period, 1 to 48')
+    settle_period(options, 'period', options.weekday if options.date is None else options.date)
+    options.slot = options.period % 336
+
+
+def settle_notice(options):
+    if options.last_date is not None and options.date is None:
+        options.error('--last-date goes with --date')
+    settle_period(options, 'first', options.date)
+    settle_period(options, 'last', options.date if options.last_date is None else options.last_date)
+
+
+def settled(options):
+    if options.command == 'standing':
+        settle_slot(options)
+    elif options.command == 'notice':
+        settle_notice(options)
+    elif 'date' in options:
+        if options.period is not None:
+            settle_period(options, 'period', options.date)
+        elif options.date is not None:
+            options.error('--date goes with --period, 1 to 48')
+    return options
+
+
 def parse_run(words):
     """One set of options for each call of a run joined by 'then'."""
     runs = [[]]
@@ -256,4 +318,4 @@ def parse_run(words):
         else:
             runs[-1].append(text)
     parser = parser_of_all()
-    return [parser.parse_args(with_values(run)) for run in runs]
+    return [settled(parser.parse_args(with_values(run))) for run in runs]

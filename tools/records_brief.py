@@ -2,34 +2,37 @@
 What every line would repeat stands once above them; a refusal's words stand where the pairs would."""
 from collections import namedtuple
 
-from records_amounts import WEEKDAYS, show_mw, show_parts, show_time
+from records_amounts import show_mw, show_parts
+from records_dates import WEEKDAYS, period_of_day, show_date, show_periods, show_time
 from records_explain import CALL_TEXTS, FRESH, REASON_TEXTS, TAKES_BACK, outage_window, used_offer
 from records_layout import CALLS, IN_FORCE, KIND_NAMES, LENGTH, NOTICES, SERVICES, SERVICE_TEXTS, pairs_of, read, record_test, takes_back
 from records_refusals import REFUSALS, refusal_text
 
 # Texts of a line's cells, '' where there is nothing to say; `pairs` are (price, quantity), `text` what stands in their place.
-Row = namedtuple('Row', 'place call facility service period day time answer mw pairs text')
+Row = namedtuple('Row', 'place call facility service period day of_day time answer mw pairs text')
 SHARED = ('call', 'facility', 'service')
-RIGHT = ('place', 'facility', 'period', 'day', 'mw')
+RIGHT = ('place', 'facility', 'period', 'day', 'of_day', 'mw')
 LOOKED_UP = {first: CALLS[held.call] + (', fresh' if held.is_fresh else '') for first, held in IN_FORCE.items()}
 
 
 # ---- a record's cells
 
-def day_and_time(minute):
-    if minute < 0:
-        return '', ''
-    return f'{minute // 1440} {WEEKDAYS[minute // 1440 % 7][:3]}', show_time(minute % 1440)
+def day_text(day):
+    """Its date, or else its number, and its weekday."""
+    return f'{show_date(day) or day} {WEEKDAYS[day % 7][:3]}'
 
 
 def when(r):
-    """Period, day and time."""
-    if r.call == 3:
-        day, time = (WEEKDAYS[r.period // 48][:3], show_time(30 * (r.period % 48))) if 0 <= r.period <= 335 else ('', '')
-        return (f'slot {r.period}', day, time)
-    if r.call in (4, 8, 9):
-        return (str(r.period), *day_and_time(30 * r.period))
-    return ('', *day_and_time(r.a)) if r.call in (1, 5) else ('', '', '')
+    """Period, day, period of the day and time."""
+    if r.call in (1, 5) and r.a >= 0:
+        return '', day_text(r.a // 1440), '', show_time(r.a % 1440)
+    if r.call not in (3, 4, 8, 9):
+        return '', '', '', ''
+    name = f'slot {r.period}' if r.call == 3 else str(r.period)
+    if r.period < 0 or (r.call == 3 and r.period > 335):
+        return name, '', '', ''
+    day = WEEKDAYS[r.period // 48][:3] if r.call == 3 else day_text(r.period // 48)
+    return name, day, str(period_of_day(r.period)), show_time(30 * (r.period % 48))
 
 
 def capability_text(w):
@@ -46,14 +49,14 @@ def said(r):
     if r.call == 5:
         return outage_window(r.a, r.b)
     if r.call == 6:
-        return f"{REASON_TEXTS[r.reason] if r.reason in NOTICES else f'notice {r.reason}'}, periods {r.a} to {r.b}"
+        return f"{REASON_TEXTS[r.reason] if r.reason in NOTICES else f'notice {r.reason}'}, {show_periods(r.a, r.b)}"
     return REASON_TEXTS[r.reason] if r.call == 7 and r.reason in NOTICES else ''
 
 
 def record_row(place, data):
     """The cells that the record fills."""
     if len(data) != LENGTH or data[5] not in CALLS:
-        return Row(place, 'no record', '', '', '', '', '', '', '', [], '')
+        return Row(place, 'no record', '', '', '', '', '', '', '', '', [], '')
     r = read(data)
     facility = str(r.facility) if r.call in (2, 3, 4, 5, 8) else ''
     service = (SERVICE_TEXTS[r.service] if r.service < 5 else str(r.service)) if r.call in (3, 4, 8, 9) else ''
@@ -158,7 +161,7 @@ def brief_lines(rows, have_answers):
     if not rows:
         return ['no records']
     shared = [name for name in SHARED if len({getattr(row, name) for row in rows}) == 1 and rows[0].call != 'no record']
-    heads = {'place': 'no.', 'answer': 'answer' if have_answers else 'record test', 'mw': 'MW'}
+    heads = {'place': 'no.', 'of_day': '1-48', 'answer': 'answer' if have_answers else 'record test', 'mw': 'MW'}
     if shared[:1] == ['call'] and rows[0].call == 'look-up' and have_answers:
         heads['answer'] = 'in force'
     columns = [name for name in Row._fields[:-2] if name not in shared and any(getattr(row, name) for row in rows)]

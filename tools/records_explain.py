@@ -1,7 +1,8 @@
 """What a record says, in words: its fields, stray bytes, the record test, and the command that makes it again."""
 from itertools import groupby
 
-from records_amounts import show_minute, show_mw, show_period, show_price, show_proportion, show_ramp, show_slot, show_weekly
+from records_amounts import show_mw, show_price, show_proportion, show_ramp
+from records_dates import show_minute, show_period, show_periods, show_slot, show_weekly
 from records_layout import (CALLS, KIND_NAMES, LENGTH, NOTICES, REASONS, SCHEDULE_CUTOFF_MINUTES, SERVICES, SERVICE_TEXTS, alternatives,
                             any_book_refuses, field_at, form_faults, kinds_with, offer_fields, pairs_of, read, record_test, stray_bytes, takes_back)
 
@@ -77,7 +78,7 @@ def capability_rows(words):
 def outage_window(minute, count):
     if minute < 0 or not kinds_with(lambda kind: 1 <= count <= kind.outage):
         return 'none'
-    return f'periods {minute // 30 + 1} to {minute // 30 + count}'
+    return show_periods(minute // 30 + 1, minute // 30 + count)
 
 
 def of_kinds(text, what, holds):

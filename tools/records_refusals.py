@@ -1,4 +1,4 @@
-"""The numbers 1 to 20 in words, and which call draws which.
+"""The numbers 1 to 21 in words, and which call draws which.
 Names and notes are those of include/bilzhaan.h, meanings and corrections those of docs/REFUSALS.md, which has the market's clauses beside them."""
 from collections import namedtuple
 
@@ -62,6 +62,9 @@ REFUSALS = {
     20: Refusal('opening refused', 'F, S, words too few, or limits', HOST,
                 'Opening: F not 1 to 64, S not 1 or 5, too few words, a limit beyond +-100,000.00, not lowest <= 0 <= highest energy price,'
                 ' or a highest price of services 1 to 4 below 0. The record test gives it for F or S.', TELL),
+    21: Refusal('date refused', 'no date of 2024 to 2099, no period of 1 to 48, or P outside theirs', COORDINATOR,
+                'No such date or period: the date does not exist, its year is outside 2024 to 2099, the period is outside 1 to 48, or P is below 0 or'
+                ' above 1,332,431.', 'The date or the period.'),
 }
 
 # What a number that several calls draw says of one of them.
