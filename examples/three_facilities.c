@@ -1,6 +1,6 @@
-/* A book for three facilities and five services: two generating sets and a load. It files offers, has some refused,
- * prints what each number means, reads what is in force, five minutes later too, says from when on a standing offer that
- * comes too late may be filed, files another with its reason, and takes a variation back.
+/* A book for three facilities and five services: two generating sets and a load. It turns a date into the book's period,
+ * files offers, has some refused, prints what each number means, reads what is in force, five minutes later too, says from
+ * when on a standing offer that comes too late may be filed, files another with its reason, and takes a variation back.
  *
  *     cc three_facilities.c $(pkg-config --cflags --libs bilzhaan) -o three_facilities */
 #include <bilzhaan_record.h>
@@ -26,11 +26,19 @@ static uint32_t file(const char *what)
     return number;
 }
 
+/* A coordinator reads dates and periods 1 to 48, where the book has one number. */
+static void print_name(const char *name, int32_t period)
+{
+    const struct bilzhaan_date date = bilzhaan_date_of(period);
+    printf("%s, %" PRId32 "-%02" PRId32 "-%02" PRId32 ", period %" PRId32 ": ", name, date.year, date.month, date.day,
+           date.period);
+}
+
 static void print_in_force(const char *name, int32_t facility, int32_t service, int32_t period)
 {
     bilzhaan_write_look_up(record, facility, service, period);
     const struct bilzhaan_answer answer = bilzhaan_call(words, count, record, sizeof record);
-    printf("%s, period %" PRId32 ": ", name, period);
+    print_name(name, period);
     if (answer.number != BILZHAAN_ACCEPTED) {
         printf("%s\n", bilzhaan_number_text(answer.number));
         return;
@@ -47,8 +55,9 @@ static void print_total(const char *name, int32_t service, int32_t period)
 {
     bilzhaan_write_total(record, service, period);
     const struct bilzhaan_answer answer = bilzhaan_call(words, count, record, sizeof record);
-    printf("%s, period %" PRId32 ": %.1f MW, facilities with an offer: %" PRId32 "\n", name, period,
-           (double)answer.sum / 10, answer.words[BILZHAAN_ANSWER_COUNT]);
+    print_name(name, period);
+    printf("%.1f MW, facilities with an offer: %" PRId32 "\n", (double)answer.sum / 10,
+           answer.words[BILZHAAN_ANSWER_COUNT]);
 }
 
 int main(void)
@@ -81,32 +90,39 @@ int main(void)
     bilzhaan_write_clock(record, 600);
     file("The clock, Monday 10:00");
 
-    /* slot 24 is Monday 12:00, and so is period 24 in the first week */
+    /* 12:00 of a Monday is its period 25: a period of the book, and the slot of every Monday's */
+    const struct bilzhaan_period monday = bilzhaan_period_of(2024, 1, 1, 25);
+    const int32_t noon = monday.period, noon_slot = noon % BILZHAAN_WEEK_SLOTS;
+    printf("Period 25 of 1 January 2024\n  %" PRIu32 ": %s\n", monday.number, bilzhaan_number_text(monday.number));
+    if (monday.number != BILZHAAN_ACCEPTED)
+        return 1;
+    printf("  The book's period %" PRId32 ", weekday %" PRId32 " of 0 (Monday) to 6, slot %" PRId32 "\n", noon, monday.weekday,
+           noon_slot);
     bilzhaan_write_standing(record, &(struct bilzhaan_offer){
-        .facility = STEAM_SET, .service = BILZHAAN_ENERGY, .period = 24, .ramp_up = 40, .ramp_down = 40,
+        .facility = STEAM_SET, .service = BILZHAAN_ENERGY, .period = noon_slot, .ramp_up = 40, .ramp_down = 40,
         .pairs = {{.price = 4000, .quantity = 1500}, {.price = 6550, .quantity = 1000}}});
     file("The steam set's standing offer for Mondays at 12:00");
     bilzhaan_write_standing(record, &(struct bilzhaan_offer){
-        .facility = GAS_TURBINE, .service = BILZHAAN_ENERGY, .period = 24, .ramp_up = 100, .ramp_down = 100,
+        .facility = GAS_TURBINE, .service = BILZHAAN_ENERGY, .period = noon_slot, .ramp_up = 100, .ramp_down = 100,
         .pairs = {{.price = 12000, .quantity = 400}, {.price = 9000, .quantity = 400}}});
     if (file("The gas turbine's, dearer pair first") == BILZHAAN_PRICES_DONT_RISE) {
         bilzhaan_write_standing(record, &(struct bilzhaan_offer){
-            .facility = GAS_TURBINE, .service = BILZHAAN_ENERGY, .period = 24, .ramp_up = 100, .ramp_down = 100,
+            .facility = GAS_TURBINE, .service = BILZHAAN_ENERGY, .period = noon_slot, .ramp_up = 100, .ramp_down = 100,
             .pairs = {{.price = 9000, .quantity = 400}, {.price = 12000, .quantity = 400}}});
         file("The gas turbine's, in order");
     }
     bilzhaan_write_standing(record, &(struct bilzhaan_offer){
-        .facility = FACTORY, .service = BILZHAAN_PRIMARY_RESERVE, .period = 24, .proportion = 800,
+        .facility = FACTORY, .service = BILZHAAN_PRIMARY_RESERVE, .period = noon_slot, .proportion = 800,
         .pairs = {{.price = 500, .quantity = 120}}});
     file("The factory's primary reserve");
     bilzhaan_write_standing(record, &(struct bilzhaan_offer){
-        .facility = FACTORY, .service = BILZHAAN_REGULATION, .period = 24, .pairs = {{.price = 500, .quantity = 10}}});
+        .facility = FACTORY, .service = BILZHAAN_REGULATION, .period = noon_slot, .pairs = {{.price = 500, .quantity = 10}}});
     file("The factory's regulation");
 
     /* inside 65 minutes a variation needs a reason */
     bilzhaan_write_clock(record, 690);
     file("The clock, Monday 11:30");
-    struct bilzhaan_offer tripped = {.facility = STEAM_SET, .service = BILZHAAN_ENERGY, .period = 24, .ramp_up = 40,
+    struct bilzhaan_offer tripped = {.facility = STEAM_SET, .service = BILZHAAN_ENERGY, .period = noon, .ramp_up = 40,
                                      .ramp_down = 40, .pairs = {{.price = 4000, .quantity = 900}}};
     bilzhaan_write_variation(record, &tripped);
     file("A variation of the steam set for 12:00, without a reason");
@@ -116,34 +132,34 @@ int main(void)
     bilzhaan_write_variation(record, &tripped);
     file("The same variation, for the outage");
 
-    print_in_force("Steam set, energy", STEAM_SET, BILZHAAN_ENERGY, 24);
-    print_in_force("Gas turbine, energy", GAS_TURBINE, BILZHAAN_ENERGY, 24);
-    print_in_force("Steam set, energy", STEAM_SET, BILZHAAN_ENERGY, 25);
-    print_total("Energy", BILZHAAN_ENERGY, 24);
-    print_total("Primary reserve", BILZHAAN_PRIMARY_RESERVE, 24);
+    print_in_force("Steam set, energy", STEAM_SET, BILZHAAN_ENERGY, noon);
+    print_in_force("Gas turbine, energy", GAS_TURBINE, BILZHAAN_ENERGY, noon);
+    print_in_force("Steam set, energy", STEAM_SET, BILZHAAN_ENERGY, noon + 1);
+    print_total("Energy", BILZHAAN_ENERGY, noon);
+    print_total("Primary reserve", BILZHAAN_PRIMARY_RESERVE, noon);
     bilzhaan_write_clock(record, 690 + BILZHAAN_SCHEDULE_CUTOFF_MINUTES);
     file("The clock, Monday 11:35");
-    print_in_force("Steam set, energy", STEAM_SET, BILZHAAN_ENERGY, 24);
+    print_in_force("Steam set, energy", STEAM_SET, BILZHAAN_ENERGY, noon);
 
     /* without a reason a standing offer over a held one waits until the slot's next period has begun */
     bilzhaan_write_standing(record, &(struct bilzhaan_offer){
-        .facility = GAS_TURBINE, .service = BILZHAAN_ENERGY, .period = 24, .ramp_up = 100, .ramp_down = 100,
+        .facility = GAS_TURBINE, .service = BILZHAAN_ENERGY, .period = noon_slot, .ramp_up = 100, .ramp_down = 100,
         .pairs = {{.price = 9500, .quantity = 800}}});
     if (file("Another standing offer of the gas turbine for Mondays at 12:00") == BILZHAAN_GATE_CLOSED)
         printf("  It may be filed from minute %" PRIu32 " on, for the slot's period a week later\n",
-               BILZHAAN_PERIOD_MINUTES * bilzhaan_next_period(690 + BILZHAAN_SCHEDULE_CUTOFF_MINUTES, 24));
+               BILZHAAN_PERIOD_MINUTES * bilzhaan_next_period(690 + BILZHAAN_SCHEDULE_CUTOFF_MINUTES, (uint32_t)noon_slot));
 
     /* with the reason it is accepted now, and stands every Monday; the variation stays in force for this one */
-    tripped.period %= BILZHAAN_WEEK_SLOTS; /* the period's slot */
+    tripped.period = noon_slot;
     tripped.pairs[0].quantity = 1500;
     bilzhaan_write_standing(record, &tripped);
     file("The steam set's standing offer for Mondays at 12:00 cut down, for the outage");
-    print_in_force("Steam set, energy", STEAM_SET, BILZHAAN_ENERGY, 24);
+    print_in_force("Steam set, energy", STEAM_SET, BILZHAAN_ENERGY, noon);
 
     /* a variation without pairs doesn't mean 0.0 MW: the standing offer stands again */
     bilzhaan_write_variation(record, &(struct bilzhaan_offer){
-        .facility = STEAM_SET, .service = BILZHAAN_ENERGY, .period = 24, .reason = BILZHAAN_REASON_FORCED_OUTAGE});
+        .facility = STEAM_SET, .service = BILZHAAN_ENERGY, .period = noon, .reason = BILZHAAN_REASON_FORCED_OUTAGE});
     file("The steam set runs again in part, and its variation is taken back");
-    print_in_force("Steam set, energy", STEAM_SET, BILZHAAN_ENERGY, 24);
+    print_in_force("Steam set, energy", STEAM_SET, BILZHAAN_ENERGY, noon);
     return 0;
 }
