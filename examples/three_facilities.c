@@ -26,10 +26,14 @@ static uint32_t file(const char *what)
     return number;
 }
 
-/* A coordinator reads dates and periods 1 to 48, where the book has one number. */
+/* A coordinator reads dates and periods 1 to 48, where the book has one number. Past 2099 there is that number alone. */
 static void print_name(const char *name, int32_t period)
 {
     const struct bilzhaan_date date = bilzhaan_date_of(period);
+    if (date.number != BILZHAAN_ACCEPTED) {
+        printf("%s, period %" PRId32 " of the book: ", name, period);
+        return;
+    }
     printf("%s, %" PRId32 "-%02" PRId32 "-%02" PRId32 ", period %" PRId32 ": ", name, date.year, date.month, date.day,
            date.period);
 }

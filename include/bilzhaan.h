@@ -218,7 +218,8 @@ enum {
     BILZHAAN_FRESH_VARIATION_IN_FORCE = 4
 };
 
-/* A date's period, and a period's date, as below. Beside 21 every other field is 0. */
+/* A date's period, and a period's date, as below. Beside 21 every other field is 0, which elsewhere is a period or a Monday:
+ * ask for the number first. */
 struct bilzhaan_period {
     uint32_t number;
     int32_t period;  /* P */
@@ -263,10 +264,11 @@ uint32_t bilzhaan_open(int32_t *words, size_t count, int32_t facilities, int32_t
  * It is worked out by remainders alone, without a branch. */
 uint32_t bilzhaan_next_period(uint32_t minute, uint32_t slot);
 
-/* The period P of a date and of its period 1 to 48, and its weekday; and the date, period 1 to 48 and weekday of P: 0, or 21
- * where the date doesn't exist, the year is outside 2024 to 2099, the period outside 1 to 48, or P below 0 or above
- * BILZHAAN_DATED_PERIOD_LAST. Each is the other's way back. P is 48 times the day number plus the period less 1; day 0 is
- * 1 January 2024, a Monday, and the weekday is the day number mod 7. The slot of a standing offer is P mod 336.
+/* The period P of a date and of its period 1 to 48, and its weekday; and the date, period 1 to 48 and weekday of P, by the
+ * Gregorian calendar. Any words may be given: 0, or 21 where the date doesn't exist, the year is outside 2024 to 2099, the
+ * period outside 1 to 48, or P below 0 or above BILZHAAN_DATED_PERIOD_LAST. Each function is the other's way back. P is 48
+ * times the day number plus the period less 1; day 0 is 1 January 2024, a Monday, and the weekday is the day number mod 7.
+ * The slot of a standing offer is P mod 336.
  * No book is asked, so no clock and no horizon: a call may still refuse the P of a date with 10. Dates are those of the
  * plant's own clock, whatever its time zone. The book's own periods go on past 2099, and have no dates there. */
 struct bilzhaan_period bilzhaan_period_of(int32_t year, int32_t month, int32_t day, int32_t period);

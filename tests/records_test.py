@@ -879,11 +879,12 @@ class Shown(Tool):
                              '  gate open  up to minute 1512625 (2026-11-16, Monday, 10:25; day 1050); after it with a reason only\n', words)
         self.assertEqual(self.explained('--period 0'), 'period 0 (2024-01-01, Monday, period 1, 00:00 to 00:30; day 0, slot 0)\n'
                                                        '  gate open  at no minute; with a reason only\n')
-        refused = self.explained('--answer 21 0 0')
-        self.assertEqual(self.explained('--period -1'), 'period -1 (before day 0)\n' + refused)
+        no_date = 'no date    21: no date of 2024 to 2099, no period of 1 to 48, or P outside theirs\n'
+        self.assertEqual(self.explained('--period -1'), 'period -1 (before day 0)\n  ' + no_date.replace('    ', '  '))
         self.assertEqual(self.explained('--period 1332432'),
-                         'period 1332432 (day 27759, Friday, period 1, 00:00 to 00:30; no date after 2099-12-31, slot 192)\n' + refused)
-        self.assertIn('gate open', self.explained('--period 1332431'))
+                         'period 1332432 (day 27759, Friday, period 1, 00:00 to 00:30; no date after 2099-12-31, slot 192)\n'
+                         '  gate open  up to minute 39972895 (2099-12-31, Thursday, 22:55; day 27758); after it with a reason only\n  ' + no_date)
+        self.assertNotIn('no date', self.explained('--period 1332431'))
 
     def test_last_open_minute(self):
         """'A variation is open when 30 P - now is 65 or more.'"""
@@ -1613,9 +1614,11 @@ class Header(unittest.TestCase):
     def test_sizes_and_bounds(self):
         energy, primary = records_layout.offer_fields(0)[1], records_layout.offer_fields(1)[1]
         self.assertEqual(self.these('RECORD_BYTES', 'FACILITIES_MOST', 'SERVICES_ALL', 'PAIRS_ENERGY', 'PAIRS_OTHER', 'CLOCK_LAST',
-                                    'NOTICE_PERIOD_LAST', 'LIMIT_LARGEST', 'SCHEDULE_CUTOFF_MINUTES'),
+                                    'NOTICE_PERIOD_LAST', 'LIMIT_LARGEST', 'SCHEDULE_CUTOFF_MINUTES', 'YEAR_FIRST', 'YEAR_LAST', 'DATED_PERIOD_LAST'),
                          [records_layout.LENGTH, records_layout.MOST_FACILITIES, records_layout.MOST_SERVICES, energy, primary, records_layout.LAST_CLOCK,
-                          records_layout.LAST_NOTICE_PERIOD, records_layout.LARGEST_LIMIT, records_layout.SCHEDULE_CUTOFF_MINUTES])
+                          records_layout.LAST_NOTICE_PERIOD, records_layout.LARGEST_LIMIT, records_layout.SCHEDULE_CUTOFF_MINUTES,
+                          records_dates.FIRST_YEAR, records_dates.LAST_YEAR, records_dates.LAST_DATED_PERIOD])
+        self.assertEqual(records_dates.period_of(1, '1'), self.numbers['DAY_PERIODS'])
         self.assertEqual([record_test(build(1), 1, services)[0] for services in self.these('SERVICES_ONE', 'SERVICES_ALL')], [0, 0])
         self.assertEqual(records_dates.period('0/00:30') * self.numbers['PERIOD_MINUTES'], records_dates.minute('0/00:30'))
         self.assertIn(f"slot {1000 % self.numbers['WEEK_SLOTS']})", records_dates.show_period(1000))

@@ -6,13 +6,14 @@ import sys
 sys.dont_write_bytecode = True
 
 from records_amounts import BadArgument, within  # noqa: E402
-from records_answers import Book, damage, explain_answer, read_answer, refusal_lines  # noqa: E402
+from records_answers import Book, damage, explain_answer, read_answer  # noqa: E402
 from records_arguments import HelpAsked, parse_run  # noqa: E402
 from records_brief import brief_lines, brief_rows  # noqa: E402
 from records_dates import DATE_REFUSED, LAST_DATED_PERIOD, show_period  # noqa: E402
 from records_explain import CAPABILITY, aligned, explain_record, open_row  # noqa: E402
 from records_files import append_records, hex_bytes, read_records, read_answers  # noqa: E402
 from records_layout import CALLS, LENGTH, SERVICES, any_book_refuses, build, form_faults, offer_fields, read, record_test  # noqa: E402
+from records_refusals import REFUSALS  # noqa: E402
 from records_streams import BadStream, complain, is_terminal, write_file, write_lines, write_output  # noqa: E402
 
 # Document 01's worked run.
@@ -122,8 +123,11 @@ def check_sources(options):
 
 
 def period_lines(period):
-    has_date = 0 <= period <= LAST_DATED_PERIOD
-    return [f'period {show_period(period)}'] + (aligned([open_row(period)]) if has_date else refusal_lines(DATE_REFUSED))
+    """A period past the last date is one all the same: the book's go on."""
+    rows = [open_row(period)] if period >= 0 else []
+    if not 0 <= period <= LAST_DATED_PERIOD:
+        rows.append(('no date', f'{DATE_REFUSED}: {REFUSALS[DATE_REFUSED].note}'))
+    return [f'period {show_period(period)}'] + aligned(rows)
 
 
 def call_and_service(data):

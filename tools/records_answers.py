@@ -98,9 +98,9 @@ class Book:
 
 # ---- lines
 
-def refusal_lines(number):
-    refusal = REFUSALS[number]
-    lines = [f'refused with {number}, {refusal.name}; drawn by {refusal.drawn_by}']
+def refusal_lines(answer):
+    refusal = REFUSALS[answer.number]
+    lines = [f'refused with {answer.number}, {refusal.name}; drawn by {refusal.drawn_by}']
     return lines + aligned([('means', refusal.means), ('to correct', refusal.correct), ('the book', 'unchanged')])
 
 
@@ -133,7 +133,7 @@ def any_call_lines(answer, service, facilities):
 
 def answer_lines(answer, call, service, facilities):
     if answer.number:
-        return refusal_lines(answer.number)
+        return refusal_lines(answer)
     if call is None:
         return any_call_lines(answer, service, facilities)
     if call == 8 and answer.words[0] in IN_FORCE:

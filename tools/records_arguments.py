@@ -193,8 +193,9 @@ def add_call_options(name, parser):
         parser.add_argument(option, action=Once, **OPTIONS[option])
     if name == 'standing':
         one = parser.add_mutually_exclusive_group(required=True)
-        for option in ('--slot', '--date', '--weekday'):
+        for option in ('--slot', '--weekday'):
             one.add_argument(option, action=Once, **OPTIONS[option])
+        one.add_argument('--date', action=Once, type=date, metavar='YYYY-MM-DD', help='a date, of which the weekday alone counts: the offer stands every week')
         parser.add_argument('--period', action=Once, metavar='N', help='period 1 to 48 of that date or weekday')
     if name == 'capability':
         parser.add_argument('--kind', type=named(KIND_NAMES, 'kind'), action=Once, required=True, metavar='KIND',

@@ -6,9 +6,10 @@ use Prim.Native.Nat.{ℕ, zero, suc, _+_, _≤_, _<_}
 use native.Mathlib.Omega.{arith}
 use lib.Dec.{leb, eqb}
 use lib.ListN.{length}
-use borrow.Author.Tests.{leb-true, leb-false, not-false}
+use borrow.Author.Tests.{leb-false, not-false}
 use Rattle.offer_rules.specs.Numbers.{toNat, between, _then_}
-use Rattle.offer_rules.proofs.Drawn.{and-left, and-right, or-left, or-right, then-zero, draw-zero}
+use Rattle.offer_rules.proofs.Drawn.{and-right, or-left, or-right, then-zero, draw-zero}
+use Rattle.offer_rules.proofs.Ranges.{between-low, between-high}
 use Rattle.book_rules.specs.Record.{byte, call-of, facility-of, service-of, period-word, reason-of, word-A, word-B, capability-in, offer-in, used, uses, is-record, outside, has-stray, record-number, words-at}
 use Rattle.book_rules.specs.Force.{View, plain}
 use Rattle.book_rules.specs.Refusals.{judge, reply, clock-number, capability-number, standing-number, variation-number, facility-number, outage-number, notice-number, withdrawal-number, look-up-number, period-number, look-up-reply, total-reply}
@@ -65,7 +66,7 @@ named F S b e =
     let s = uses b 7 && leb S (service-of b) in
     record {
       none-stray = draw-zero (has-stray b) 4 (omega arith) (y .1);
-      which = which-of b (call-of b) (leb-true 1 (call-of b) (and-left (leb 1 (call-of b)) (leb (call-of b) 9) k)) (leb-true (call-of b) 9 (and-right (leb 1 (call-of b)) (leb (call-of b) 9) k)) refl;
+      which = which-of b (call-of b) (between-low 1 9 (call-of b) k) (between-high 1 9 (call-of b) k) refl;
       facility-in = λ u. leb-false F (facility-of b) (passed (uses b 6) (leb F (facility-of b)) (or-left f s o) u);
       service-in = λ u. leb-false S (service-of b) (passed (uses b 7) (leb S (service-of b)) (or-right f s o) u);
     }

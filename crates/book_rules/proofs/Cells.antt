@@ -15,7 +15,7 @@ use borrow.Author.Tests.{eq-eqb, ne-eqb, eqb-true, lt-leb, not-true}
 use Rattle.offer_rules.specs.Numbers.{word, between, beyond, any-beyond}
 use Rattle.offer_rules.specs.Offer.{pairs, Held, accepted-at, all-blank, most-ramp, ramp-beyond, ramp-refused, offer-number}
 use Rattle.offer_rules.proofs.Drawn.{and-false, or-left, or-right, or-false, then-zero, draw-zero}
-use Rattle.offer_rules.proofs.Periods.{within}
+use Rattle.offer_rules.proofs.Ranges.{within}
 use Rattle.book_rules.specs.Record.{byte, signed, word-at, words-at, call-of, service-of, offer-in, used-by-offer, used, any-stray, has-stray}
 use Rattle.book_rules.specs.Words.{ramp-unit, packed-ramps, cell, cell-held, holding, ramps-fit, variation-stamp}
 use Rattle.book_rules.specs.Force.{variation-made}

@@ -10,17 +10,11 @@ use Rattle.offer_rules.proofs.Drawn.{and-left, and-right}
 use Rattle.calendar_rules.specs.Calendar.{year-days, month-days, days-before, month-at}
 use Rattle.calendar_rules.proofs.Everywhere.{passes-below, everywhere, agree}
 use Rattle.calendar_rules.proofs.Begun.{later-begins-later, none-other}
-use Rattle.calendar_rules.proofs.Lengths.{months-make-the-year, months-rise}
+use Rattle.calendar_rules.proofs.Lengths.{months-make-the-year, months-rise, in-each-month}
 
 pub year-at-most : (leap : Bool) → year-days leap ≤ 366
 year-at-most true = omega arith
 year-at-most false = omega arith
-
--- What a test says of months 1 to 12.
-in-each-month : (test : ℕ → Bool) → passes-below (λ i. test (i + 1)) 12 ≡ true → (m : ℕ) → 1 ≤ m → m ≤ 12 → test m ≡ true
-in-each-month test e m l h =
-    let f : m - 1 + 1 ≡ m = omega arith in
-    rw f at (everywhere (λ i. test (i + 1)) 12 e (m - 1) (omega arith))
 
 -- ---- a month's days
 
@@ -38,14 +32,6 @@ pub days-in-turns : (leap : Bool) (m : ℕ) → 1 ≤ m → m ≤ 12 → m ≢ 2
 days-in-turns leap m l h n2 =
     eqb-true (30 + (m + m / 8) % 2) (month-days leap m)
     (rw (ne-eqb m 2 n2) at (in-each-month (λ k. eqb k 2 || eqb (30 + (k + k / 8) % 2) (month-days leap k)) (turns-agree leap) m l h))
-
-twenty-eight : (leap : Bool) → passes-below (λ i. leb 28 (month-days leap (i + 1))) 12 ≡ true
-unfolding passes-below month-days
-twenty-eight true = refl
-twenty-eight false = refl
-
-pub at-least-28 : (leap : Bool) (m : ℕ) → 1 ≤ m → m ≤ 12 → 28 ≤ month-days leap m
-at-least-28 leap m l h = leb-true 28 (month-days leap m) (in-each-month (λ k. leb 28 (month-days leap k)) (twenty-eight leap) m l h)
 
 -- ---- the days before a month
 

@@ -6,14 +6,13 @@ use native.Mathlib.Omega.{arith}
 use lib.Dec.{leb, ltb}
 use lib.IntN.{ℤ, pos, negsuc}
 use lib.Signed.{ltZ}
-use borrow.Author.Tests.{ltb-true, ltb-false, le-leb, lt-leb}
+use borrow.Author.Tests.{ltb-true, le-leb, lt-leb}
 use Rattle.offer_rules.specs.Numbers.{toNat, between, beyond}
-use Rattle.offer_rules.proofs.Drawn.{and-false, or-left, or-right}
-use Rattle.calendar_rules.proofs.RoundTrips.{between-low, between-high, is-between}
+use Rattle.offer_rules.proofs.Drawn.{and-false}
+use Rattle.offer_rules.proofs.Ranges.{between-low, between-high, is-between, within}
 
 pub within-counts : (lo hi : ℕ) (z : ℤ) → beyond (pos lo) (pos hi) z ≡ false → between lo hi (toNat z) ≡ true
-within-counts lo hi (pos n) e =
-    is-between lo hi n (ltb-false n lo (or-left (ltb n lo) (ltb hi n) e)) (ltb-false hi n (or-right (ltb n lo) (ltb hi n) e))
+within-counts lo hi (pos n) e = let h = within lo hi n e in is-between lo hi n (h .0) (h .1)
 within-counts lo hi (negsuc n) e = let z : _≡_ {A = ℕ} 0 1 = cc e in absurd (omega arith)
 
 -- A word below 0 counts as 0, which is below lo.

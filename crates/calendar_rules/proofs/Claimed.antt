@@ -1,19 +1,21 @@
 -- The claims of specs/Claims.
 use mathlib.Core.Path.{_≡_, refl, sym, ap, _∙_}
 use mathlib.Core.Bool.{Bool, true, false, cond, not}
-use Prim.Native.Nat.{ℕ, suc, _+_, _*_, _-_, _/_, _%_, _≤_}
+use Prim.Native.Nat.{ℕ, zero, suc, _+_, _*_, _-_, _/_, _%_, _≤_, _<_}
 use native.Mathlib.Omega.{arith}
-use lib.Dec.{eqb, ltb}
+use lib.Dec.{eqb}
 use lib.IntN.{ℤ, pos, negsuc}
-use borrow.Author.Tests.{eq-eqb, ne-eqb, ltb-false, le-ltb}
+use lib.ListN.{List·getD-eq-default}
+use borrow.Author.Tests.{eq-eqb, ne-eqb, le-ltb}
 use Rattle.offer_rules.specs.Numbers.{toNat, between}
 use Rattle.offer_rules.specs.Time.{periods-a-day}
-use Rattle.offer_rules.proofs.Drawn.{and-left, and-right, and-false, or-right, or-true}
-use Rattle.calendar_rules.specs.Calendar.{first-year, divides, is-leap, month-days, days-before, days-of-years, date-exists, day-number, period-of-date, weekday-of, last-period, date-of-day}
+use Rattle.offer_rules.proofs.Drawn.{and-left, and-right, and-false, or-true}
+use Rattle.offer_rules.proofs.Ranges.{between-low, between-high, is-between, count-within}
+use Rattle.calendar_rules.specs.Calendar.{divides, is-leap, month-lengths, month-days, days-before, days-of-years, date-exists, day-number, period-of-date, weekday-of, last-period, date-of-day}
 use Rattle.calendar_rules.specs.Answers.{PeriodAnswer, DateAnswer, is-date-and-period, no-period, period-found, period-for, period-answer, is-outside-calendar, no-date, date-found, date-answer}
-use Rattle.calendar_rules.specs.Claims.{Gregorian, DayByDay, LastDay, ThereAndBack, BackAndThere, NoTwoAlike, ExactlyTheDates, ExactlyThePeriods, ElseZeros, WeekdayOfDate, WeekdayOfPeriod, SameTime}
-use Rattle.calendar_rules.proofs.Lengths.{month-more, year-more}
-use Rattle.calendar_rules.proofs.RoundTrips.{between-low, between-high, is-between, exists-says, date-back, day-in-calendar, day-back, day-of-its-period, period-of-its-day, period-again}
+use Rattle.calendar_rules.specs.Claims.{Gregorian, Months, OneCount, LastDay, ThereAndBack, BackAndThere, NoTwoAlike, ExactlyTheDates, ExactlyThePeriods, ElseZeros, MondayIs0, WeekdayOfDate, WeekdayOfPeriod, SameTime}
+use Rattle.calendar_rules.proofs.OneCount.{day-zero-is, day-by-day, no-other-count}
+use Rattle.calendar_rules.proofs.RoundTrips.{exists-says, date-back, day-in-calendar, day-back, day-of-its-period, period-of-its-day, period-again}
 
 -- ---- days
 
@@ -31,40 +33,23 @@ pub last-day-is : LastDay
 unfolding LastDay period-of-date day-number days-before days-of-years month-days is-leap
 last-day-is = (refl, refl)
 
-december-31 : (leap : Bool) → days-before leap 12 + 31 ≡ cond leap 366 365
-unfolding days-before month-days
-december-31 true = refl
-december-31 false = refl
-
-no-days-before-january : (leap : Bool) → days-before leap 1 ≡ 0
-unfolding days-before month-days
-no-days-before-january leap = refl
-
-day-zero-is : day-number 2024 1 1 ≡ 0
-unfolding day-number days-before days-of-years month-days
-day-zero-is = refl
-
-pub day-by-day : DayByDay
-unfolding day-number
-day-by-day =
+pub months : Months
+unfolding month-days
+months =
     record {
-      day-zero = day-zero-is;
-      a-monday = ap weekday-of day-zero-is;
-      in-month = λ y m d h. omega arith;
-      next-month = λ y m h. omega (arith, month-more-1 (is-leap y) m);
-      next-year = λ y h. next y h;
+      thirty = λ leap. refl;
+      thirty-one = λ leap. refl;
+      february = (refl, refl);
+      no-more = λ leap m h. none-after leap m h;
     }
   where
-    month-more-1 : (leap : Bool) (m : ℕ) → days-before leap (m + 1) ≡ days-before leap m + month-days leap m
-    month-more-1 leap m = let e : m + 1 ≡ suc m = omega arith in rw e (month-more leap m)
+    none-after : (leap : Bool) (m : ℕ) → 12 < m → month-days leap m ≡ 0
+    none-after leap zero h = absurd (omega arith)
+    none-after leap (suc m) h = List·getD-eq-default (month-lengths leap) 0 {n = m} (omega arith)
 
-    next : (y : ℕ) → 2024 ≤ y → day-number (y + 1) 1 1 ≡ day-number y 12 31 + 1
-    next y h =
-        let k = y - first-year in
-        let e : y + 1 - first-year ≡ suc k = omega arith in
-        let f : first-year + k ≡ y = omega arith in
-        let s : days-of-years (suc k) ≡ days-of-years k + cond (is-leap y) 366 365 = rw f at (year-more k) in
-        rw e (omega (arith, december-31 (is-leap y), no-days-before-january (is-leap (y + 1))))
+pub one-count : OneCount
+unfolding OneCount
+one-count = (day-by-day, no-other-count)
 
 -- ---- a date and period
 
@@ -124,13 +109,6 @@ there-and-back year month day period e =
 
 -- ---- a period
 
-not-outside : (p : ℕ) → is-outside-calendar (pos p) ≡ false → p ≤ last-period
-not-outside p e = ltb-false last-period p (or-right (ltb p 0) (ltb last-period p) e)
-
-pub count-in-calendar : (z : ℤ) → is-outside-calendar z ≡ false → toNat z ≤ last-period
-count-in-calendar (pos p) e = not-outside p e
-count-in-calendar (negsuc p) e = omega arith
-
 back-for-counts : (p : ℕ) → p ≤ last-period
     → (date-found p .number ≡ 0)
     × (period-answer (date-found p .year) (date-found p .month) (date-found p .day) (date-found p .period)
@@ -147,7 +125,7 @@ pub back-and-there : BackAndThere
 unfolding BackAndThere date-answer
 back-and-there (pos p) e =
     let o = date-accepted (is-outside-calendar (pos p)) (date-found p) e in
-    rw o (back-for-counts p (not-outside p o) .1)
+    rw o (back-for-counts p (count-within last-period (pos p) o .1) .1)
 back-and-there (negsuc p) e = absurd (omega arith)
 
 -- ---- no two alike
@@ -193,6 +171,10 @@ else-zeros = (
 )
 
 -- ---- weekdays
+
+pub monday-is-0 : MondayIs0
+unfolding MondayIs0
+monday-is-0 = ap weekday-of day-zero-is
 
 pub weekday-of-date : WeekdayOfDate
 unfolding WeekdayOfDate period-answer period-found

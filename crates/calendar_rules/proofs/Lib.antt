@@ -1,7 +1,8 @@
--- RoundTrips has the theorems on dates, Claimed those of specs/Claims, Cases those of specs/Cases; the others are what they rest on.
+-- Claimed has the theorems of specs/Claims, Cases those of specs/Cases; the others are what they rest on.
 pub mod Everywhere
 pub mod Begun
 pub mod Lengths
 pub mod RoundTrips
+pub mod OneCount
 pub mod Claimed
 pub mod Cases

@@ -3,27 +3,12 @@ use mathlib.Core.Path.{_≡_, refl}
 use mathlib.Core.Bool.{Bool, true, _&&_}
 use Prim.Native.Nat.{ℕ, zero, suc, _+_, _*_, _-_, _/_, _%_, _<_, _≤_}
 use native.Mathlib.Omega.{arith}
-use lib.Dec.{leb}
-use borrow.Author.Tests.{leb-true, le-leb}
 use Rattle.offer_rules.specs.Numbers.{between}
 use Rattle.offer_rules.proofs.Drawn.{and-left, and-right}
+use Rattle.offer_rules.proofs.Ranges.{and-holds, between-low, between-high, is-between}
 use Rattle.calendar_rules.specs.Calendar.{first-year, last-year, is-leap, month-days, days-before, year-days, days-of-years, date-exists, day-number, last-day, Date, years-before, into-year, month-at, date-of-day}
 use Rattle.calendar_rules.proofs.Begun.{last-at-most, last-has-begun, next-has-not, later-begins-later, none-other}
 use Rattle.calendar_rules.proofs.Lengths.{month-more, year-more, no-year, no-month, month-0, months-make-the-year, months-rise, years-rise, years-in-all}
-
--- ---- tests and what they say
-
-and-holds : (a b : Bool) → a ≡ true → b ≡ true → (a && b) ≡ true
-and-holds a b e f = rw (e, f)
-
-pub between-low : (lo hi n : ℕ) → between lo hi n ≡ true → lo ≤ n
-between-low lo hi n e = leb-true lo n (and-left (leb lo n) (leb n hi) e)
-
-pub between-high : (lo hi n : ℕ) → between lo hi n ≡ true → n ≤ hi
-between-high lo hi n e = leb-true n hi (and-right (leb lo n) (leb n hi) e)
-
-pub is-between : (lo hi n : ℕ) → lo ≤ n → n ≤ hi → between lo hi n ≡ true
-is-between lo hi n h k = and-holds (leb lo n) (leb n hi) (le-leb lo n h) (le-leb n hi k)
 
 -- What a date that exists is, as orders.
 pub record Exists (year month day : ℕ) : Type 0 where

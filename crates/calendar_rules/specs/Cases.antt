@@ -7,7 +7,7 @@ use lib.IntN.{ℤ, pos, negsuc}
 use Rattle.calendar_rules.specs.Calendar.{is-leap}
 use Rattle.calendar_rules.specs.Answers.{PeriodAnswer, DateAnswer, no-period, period-answer, no-date, date-answer}
 
--- The Gregorian rule where it isn't each fourth year. No date of 2024 to 2099 tells.
+-- The Gregorian rule around the turns of centuries. No date of 2024 to 2099 tells.
 unfoldable pub Centuries : Type 0
 Centuries = (is-leap 2000 ≡ true) × (is-leap 2096 ≡ true) × (is-leap 2100 ≡ false)
 
@@ -23,7 +23,7 @@ pub record Dated : Type 0 where
 abbrev dated : ℕ → ℕ → ℕ → ℕ → ℕ → ℕ → Dated
 dated y m d q p w = record { year = y; month = m; day = d; period = q; p = p; weekday = w }
 
--- Mondays, Thursdays and their kind; the leap days of 2024 and 2096, days 59 and 26,357; the days around them; both ends of the calendar.
+-- Both ends of the calendar; the leap days of 2024 and 2096, days 59 and 26,357, and the days around the first; turns of years; the last days of months.
 abbrev pub dates : List Dated
 dates =
     dated 2024 1 1 1 0 0
@@ -36,6 +36,8 @@ dates =
     ∷ dated 2024 12 31 48 17567 1
     ∷ dated 2025 1 1 1 17568 2
     ∷ dated 2025 3 1 1 20400 5
+    ∷ dated 2025 7 31 48 27743 3
+    ∷ dated 2025 10 31 48 32159 4
     ∷ dated 2026 11 16 24 50423 0
     ∷ dated 2096 2 29 1 1265136 2
     ∷ dated 2099 12 31 48 1332431 3
@@ -66,12 +68,15 @@ pub record Asked : Type 0 where
 abbrev asked : ℕ → ℕ → ℕ → ℕ → Asked
 asked y m d q = record { year = pos y; month = pos m; day = pos d; period = pos q }
 
--- 29 February 2025, 31 April, month 13, the years beside the calendar, periods 0 and 49, a month below 0.
+-- 29 February 2025, 31 April and its kind, month 13, the years beside the calendar, periods 0 and 49, a month below 0.
 abbrev pub no-dates : List Asked
 no-dates =
     asked 2025 2 29 1
     ∷ asked 2024 2 30 1
     ∷ asked 2024 4 31 1
+    ∷ asked 2024 6 31 1
+    ∷ asked 2024 9 31 1
+    ∷ asked 2024 11 31 1
     ∷ asked 2024 1 0 1
     ∷ asked 2024 0 1 1
     ∷ asked 2024 13 1 1

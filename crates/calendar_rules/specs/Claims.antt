@@ -1,8 +1,9 @@
 -- What document 02 says of dates, as claims about the definitions, for every words. Their proofs are in proofs/Claimed.
 use mathlib.Core.Path.{_≡_}
 use mathlib.Core.Logic.{_↔_, _≢_}
-use mathlib.Core.Bool.{true, false}
-use Prim.Native.Nat.{ℕ, _+_, _*_, _-_, _%_, _≤_}
+use mathlib.Core.Bool.{Bool, true, false}
+use mathlib.Core.List.{[], _∷_, map}
+use Prim.Native.Nat.{ℕ, _+_, _*_, _-_, _%_, _≤_, _<_}
 use lib.IntN.{ℤ, pos}
 use Rattle.offer_rules.specs.Numbers.{toNat, between}
 use Rattle.offer_rules.specs.Time.{start-of, day-of, periods-a-day, slot-of}
@@ -18,14 +19,24 @@ pub record Gregorian : Type 0 where
   pub by-4 : (y : ℕ) → y % 4 ≡ 0 → y % 100 ≢ 0 → is-leap y ≡ true
   pub by-none : (y : ℕ) → y % 4 ≢ 0 → is-leap y ≡ false
 
--- "Day 0 is 1 January 2024, a Monday", whose weekday is 0, and each next date is the next day: within a month, after a month's last, after a year's last. No other
--- count is so.
-pub record DayByDay : Type 0 where
-  pub day-zero : day-number 2024 1 1 ≡ 0
-  pub a-monday : weekday-of (day-number 2024 1 1) ≡ 0
-  pub in-month : (y m d : ℕ) → 1 ≤ d → day-number y m (d + 1) ≡ day-number y m d + 1
-  pub next-month : (y m : ℕ) → 1 ≤ month-days (is-leap y) m → day-number y (m + 1) 1 ≡ day-number y m (month-days (is-leap y) m) + 1
-  pub next-year : (y : ℕ) → first-year ≤ y → day-number (y + 1) 1 1 ≡ day-number y 12 31 + 1
+-- The months as anyone knows them: four have 30 days, February 28 or 29, the others 31; there are no more than twelve.
+pub record Months : Type 0 where
+  pub thirty : (leap : Bool) → map (month-days leap) (4 ∷ 6 ∷ 9 ∷ 11 ∷ []) ≡ 30 ∷ 30 ∷ 30 ∷ 30 ∷ []
+  pub thirty-one : (leap : Bool) → map (month-days leap) (1 ∷ 3 ∷ 5 ∷ 7 ∷ 8 ∷ 10 ∷ 12 ∷ []) ≡ 31 ∷ 31 ∷ 31 ∷ 31 ∷ 31 ∷ 31 ∷ 31 ∷ []
+  pub february : (month-days true 2 ≡ 29) × (month-days false 2 ≡ 28)
+  pub no-more : (leap : Bool) (m : ℕ) → 12 < m → month-days leap m ≡ 0
+
+-- A count of days: "Day 0 is 1 January 2024", and each other date is one day after the date before it, in its month, in the month before or in the year before.
+pub record DayByDay (count : ℕ → ℕ → ℕ → ℕ) : Type 0 where
+  pub day-zero : count 2024 1 1 ≡ 0
+  pub in-month : (y m d : ℕ) → date-exists y m (d + 1) ≡ true → 1 ≤ d → count y m (d + 1) ≡ count y m d + 1
+  pub next-month : (y m : ℕ) → date-exists y (m + 1) 1 ≡ true → 1 ≤ m → count y (m + 1) 1 ≡ count y m (month-days (is-leap y) m) + 1
+  pub next-year : (y : ℕ) → date-exists (y + 1) 1 1 ≡ true → first-year ≤ y → count (y + 1) 1 1 ≡ count y 12 31 + 1
+
+-- The day number is one, and there is no other.
+unfoldable pub OneCount : Type 0
+OneCount = DayByDay day-number
+    × ((count : ℕ → ℕ → ℕ → ℕ) → DayByDay count → (y m d : ℕ) → date-exists y m d ≡ true → count y m d ≡ day-number y m d)
 
 -- "31 December 2099 is day 27,758", and its period 48 is the last.
 unfoldable pub LastDay : Type 0
@@ -71,6 +82,10 @@ ElseZeros = ((y m d q : ℤ) → period-answer y m d q .number ≢ 0 → period-
     × ((p : ℤ) → date-answer p .number ≢ 0 → date-answer p ≡ no-date)
 
 -- ---- "both ways also give the weekday, the day number mod 7, 0 for Monday"
+
+-- Day 0 is "a Monday".
+unfoldable pub MondayIs0 : Type 0
+MondayIs0 = weekday-of (day-number 2024 1 1) ≡ 0
 
 unfoldable pub WeekdayOfDate : Type 0
 WeekdayOfDate = (y m d q : ℤ) → period-answer y m d q .number ≡ 0

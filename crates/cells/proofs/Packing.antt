@@ -11,7 +11,7 @@ use mir.Facts.{toZ-ofZ, toZ-pos, sfits-lit}
 use borrow.Author.Needs.{sfits-of}
 use Rattle.offer_rules.specs.Numbers.{beyond}
 use Rattle.offer_rules.specs.Offer.{most-ramp}
-use Rattle.offer_rules.proofs.Periods.{within}
+use Rattle.offer_rules.proofs.Ranges.{within}
 use Rattle.book_rules.specs.Words.{ramp-unit, packed-ramps}
 use Rattle.units.proofs.Adding.{abs-add, abs-fits, cast-fits}
 use Rattle.units.proofs.Counts.{word-back}

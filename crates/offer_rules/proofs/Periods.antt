@@ -4,16 +4,12 @@ use mathlib.Core.Logic.{_≢_}
 use mathlib.Core.Bool.{Bool, true, false, cond, true≢false}
 use Prim.Native.Nat.{ℕ, zero, suc, _+_, _*_, _-_, _/_, _%_, _≤_, _<_}
 use native.Mathlib.Omega.{arith}
-use lib.Dec.{ltb}
 use lib.IntN.{ℤ, pos, negsuc}
-use borrow.Author.Tests.{leb-true, leb-false, lt-leb, ltb-false}
-use Rattle.offer_rules.specs.Numbers.{toNat, beyond}
+use borrow.Author.Tests.{leb-true, leb-false, lt-leb}
+use Rattle.offer_rules.specs.Numbers.{toNat}
 use Rattle.offer_rules.specs.Time.{start-of, slots, slot-of, horizon-end, slot-refused, has-begun, past-horizon, period-refused, IsNext, first-not-begun, next-period, NextIsLeast}
 use Rattle.offer_rules.proofs.Drawn.{or-left, or-right}
-
--- A number that is not beyond two others lies between them.
-pub within : (lo hi a : ℕ) → beyond (pos lo) (pos hi) (pos a) ≡ false → (lo ≤ a) × (a ≤ hi)
-within lo hi a e = (ltb-false a lo (or-left (ltb a lo) (ltb hi a) e), ltb-false hi a (or-right (ltb a lo) (ltb hi a) e))
+use Rattle.offer_rules.proofs.Ranges.{within}
 
 -- A slot that is not refused is one of the 336.
 pub slot-is : (k : ℤ) → slot-refused k ≡ false → (k ≡ pos (toNat k)) × (toNat k < slots)

@@ -1,16 +1,17 @@
 -- What follows for the code where sizes, or a book's words, pass their test.
 use mathlib.Core.Path.{_≡_, refl}
 use mathlib.Core.Logic.{_⊎_, inl, inr, ⊎-elim}
-use mathlib.Core.Bool.{Bool, true, false, not, _&&_, _||_, false≢true, true≢false}
+use mathlib.Core.Bool.{Bool, true, false, not, _&&_, _||_, false≢true}
 use mathlib.Core.List.{List}
-use Prim.Native.Nat.{ℕ, _≤_}
+use Prim.Native.Nat.{_≤_}
 use native.Mathlib.Omega.{arith}
-use lib.Dec.{leb, ltb, eqb}
+use lib.Dec.{leb, eqb}
 use lib.IntN.{ℤ, pos, negsuc}
 use lib.ListN.{length}
-use borrow.Author.Tests.{leb-true, ltb-false, eqb-true, not-true, not-false}
+use borrow.Author.Tests.{leb-true, eqb-true, not-true, not-false}
 use Rattle.offer_rules.specs.Numbers.{eqZ, toNat, word, beyond}
-use Rattle.offer_rules.proofs.Drawn.{and-left, and-right, or-right, draw-zero}
+use Rattle.offer_rules.proofs.Drawn.{and-left, and-right, draw-zero}
+use Rattle.offer_rules.proofs.Ranges.{count-within}
 use Rattle.book_rules.specs.Record.{sizes-ok}
 use Rattle.book_rules.specs.Book.{facilities-in, services-in}
 use Rattle.book_rules.specs.Words.{book-size, book-mark, book-version, clock-place, is-book, limits-ok, opening-number}
@@ -61,11 +62,6 @@ sized (pos F) (pos S) e =
       least-S = ⊎-elim (λ x. omega arith) (λ x. omega arith) k;
       most-S = ⊎-elim (λ x. omega arith) (λ x. omega arith) k;
     }
-
--- A word that is not outside 0 to n is a count up to n.
-pub count-within : (n : ℕ) (z : ℤ) → beyond (pos 0) (pos n) z ≡ false → (z ≡ pos (toNat z)) × (toNat z ≤ n)
-count-within n (pos m) e = (refl, ltb-false n m (or-right (ltb m 0) (ltb n m) e))
-count-within n (negsuc m) e = absurd (true≢false e)
 
 pub usable : (w : List ℤ) → is-book w ≡ true → BookWords w
 unfolding is-book

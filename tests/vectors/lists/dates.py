@@ -7,7 +7,7 @@ LAST_PERIOD = 1_332_431
 
 
 def _days(year, month):
-    """No year of 2024 to 2099 is one of a hundred."""
+    """No year of 2024 to 2099 is a multiple of 100."""
     return MONTHS[month - 1] + (month == 2 and year % 4 == 0)
 
 

@@ -4,8 +4,9 @@ use mathlib.Core.Path.{_≡_, sym, ap, _∙_}
 use mir.Syntax.{w32}
 use mir.Facts.{toZ-ofZ}
 use Rattle.offer_rules.specs.Numbers.{toNat}
+use Rattle.offer_rules.proofs.Ranges.{count-within}
+use Rattle.calendar_rules.specs.Calendar.{last-period}
 use Rattle.calendar_rules.specs.Answers.{is-outside-calendar, date-found, date-answer}
-use Rattle.calendar_rules.proofs.Claimed.{count-in-calendar}
 use Rattle.calendar.proofs.bilzhaan_date_of.Statement.{statement}
 use Rattle.calendar.proofs.bilzhaan_date_of.Tie as tie
 
@@ -32,7 +33,7 @@ found-date-requires : tie.Need-found-date-requires
 found-date-requires c κs =
     let e = c .before in
     let z = e .before .before .args .period in
-    rw (count c) (count-in-calendar z (sym (outside (e .before)) ∙ e .if1 .left))
+    rw (count c) (count-within last-period z (sym (outside (e .before)) ∙ e .if1 .left) .1)
 
 returns-2 : tie.Need-returns-2
 unfolding date-answer

@@ -5,7 +5,7 @@ use mir.Syntax.{w32}
 use mir.ValLaws.{toZ-pos}
 use Rattle.calendar_rules.specs.Calendar.{period-of-date}
 use Rattle.calendar_rules.specs.Answers.{period-found}
-use Rattle.calendar_rules.proofs.RoundTrips.{between-low, between-high}
+use Rattle.offer_rules.proofs.Ranges.{between-low, between-high}
 use Rattle.calendar_rules.proofs.Claimed.{both-say}
 use Rattle.calendar.proofs.found_period.Statement.{statement}
 use Rattle.calendar.proofs.found_period.Tie as tie

@@ -10,9 +10,9 @@ use mir.Facts.{toZ-ofZ}
 use Rattle.offer_rules.specs.Numbers.{toNat, between, beyond}
 use Rattle.offer_rules.specs.Time.{periods-a-day}
 use Rattle.offer_rules.proofs.Drawn.{and-false, and-true}
+use Rattle.offer_rules.proofs.Ranges.{between-low, between-high}
 use Rattle.calendar_rules.specs.Calendar.{first-year, last-year, month-days, is-leap, date-exists}
 use Rattle.calendar_rules.specs.Answers.{is-date-and-period}
-use Rattle.calendar_rules.proofs.RoundTrips.{between-low, between-high}
 use Rattle.calendar.proofs.Words.{within-counts, beyond-counts}
 use Rattle.calendar.proofs.is_date_and_period.Statement.{statement}
 use Rattle.calendar.proofs.is_date_and_period.Tie as tie

@@ -6,8 +6,8 @@ use mir.Syntax.{w32}
 use mir.Facts.{toZ-ofZ}
 use Rattle.offer_rules.specs.Numbers.{toNat, beyond}
 use Rattle.calendar_rules.specs.Calendar.{month-days}
+use Rattle.calendar_rules.proofs.Lengths.{at-least-28}
 use Rattle.calendar.proofs.Words.{day-to-28, day-from-29}
-use Rattle.calendar.proofs.Months.{at-least-28}
 use Rattle.calendar.proofs.is_day_of.Statement.{statement}
 use Rattle.calendar.proofs.is_day_of.Tie as tie
 
