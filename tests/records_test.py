@@ -330,7 +330,7 @@ class Calendar(Tool):
     def check_period(self, given, number, answer):
         text = self.explained(f'--period {given[0]}')
         if number:
-            self.assertIn('\nrefused with 21, date refused;', text)
+            self.assertIn(' 21: no date of 2024 to 2099', text)
         else:
             year, month, day, period, weekday = answer
             self.assertTrue(text.startswith(f'period {given[0]} ({year}-{month:02d}-{day:02d}, {self.WEEKDAYS[weekday]}, period {period}, '), (text, answer))
@@ -458,8 +458,8 @@ class BadArguments(Tool):
         ('clock --minute 2100-01-01/00:00', "argument --minute: '2100-01-01': the year is outside 2024 to 2099 (21)"),
         ('clock --minute 2026-11-16/24:00', 'is not a time of day'),
         ('clock --date 2026-11-16 --minute 5', 'unrecognized arguments: --date'),
-        (SLOTTED, 'one of the arguments --slot --date --weekday is required'),
-        (SLOTTED + '--period 24', 'one of the arguments --slot --date --weekday is required'),
+        (SLOTTED, 'one of the arguments --slot --weekday --date is required'),
+        (SLOTTED + '--period 24', 'one of the arguments --slot --weekday --date is required'),
         (SLOTTED + '--slot 4 --period 24', '--period goes with --date or --weekday, not with --slot'),
         (SLOTTED + '--slot 4 --date 2026-11-16 --period 24', 'not allowed with argument --slot'),
         (SLOTTED + '--weekday Mon --slot 4', 'not allowed with argument --weekday'),
