@@ -270,7 +270,8 @@ uint32_t bilzhaan_next_period(uint32_t minute, uint32_t slot);
  * times the day number plus the period less 1; day 0 is 1 January 2024, a Monday, and the weekday is the day number mod 7.
  * The slot of a standing offer is P mod 336.
  * No book is asked, so no clock and no horizon: a call may still refuse the P of a date with 10. Dates are those of the
- * plant's own clock, whatever its time zone. The book's own periods go on past 2099, and have no dates there. */
+ * plant's own clock, whatever its time zone: its clock records count their minutes from 00:00 of 1 January 2024, and where
+ * they count from another Monday every date is wrong by whole weeks. The book's own periods go on past 2099, without dates. */
 struct bilzhaan_period bilzhaan_period_of(int32_t year, int32_t month, int32_t day, int32_t period);
 struct bilzhaan_date bilzhaan_date_of(int32_t period);
 
