@@ -7,7 +7,7 @@ cd "$(dirname "$0")/.."
 command -v rt >/dev/null || { echo "rt is not on the PATH: see README.md" >&2; exit 2; }
 mkdir -p target
 log=target/worked-run.log
-echo "proving offer_book and what it stands on, some two minutes the first time on two cores" >&2
+echo "proving offer_book and what it stands on, two or three minutes the first time on two cores" >&2
 status=0
 rt check offer_book >"$log" 2>&1 || status=$?
 if [ "$status" -ne 0 ]; then
