@@ -8,6 +8,7 @@ use lib.Dec.{eqb, leb, ltb}
 use borrow.Author.Tests.{eqb-true, ne-eqb, leb-true, ltb-true}
 use Rattle.offer_rules.proofs.Drawn.{and-left, and-right}
 use Rattle.calendar_rules.specs.Calendar.{year-days, month-days, days-before, month-at}
+use Rattle.calendar.specs.Evened.{evenly, evened}
 use Rattle.calendar_rules.proofs.Everywhere.{passes-below, everywhere, agree}
 use Rattle.calendar_rules.proofs.Begun.{later-begins-later, none-other}
 use Rattle.calendar_rules.proofs.Lengths.{months-make-the-year, months-rise, in-each-month}
@@ -35,9 +36,6 @@ days-in-turns leap m l h n2 =
 
 -- ---- the days before a month
 
-abbrev evenly : ℕ → ℕ
-evenly m = (367 * m - 362) / 12
-
 early-agree : (leap : Bool) → passes-below (λ i. eqb (evenly (i + 1)) (days-before leap (i + 1))) 2 ≡ true
 unfolding passes-below days-before month-days
 early-agree true = refl
@@ -49,12 +47,12 @@ later-agree true = refl
 later-agree false = refl
 
 -- January and February, and the months after them.
-pub before-early : (leap : Bool) (m : ℕ) → 1 ≤ m → m < 3 → (367 * m - 362) / 12 ≡ days-before leap m
+pub before-early : (leap : Bool) (m : ℕ) → 1 ≤ m → m < 3 → evenly m ≡ days-before leap m
 before-early leap m l h =
     let e : m - 1 + 1 ≡ m = omega arith in
     rw e at (agree (λ i. evenly (i + 1)) (λ i. days-before leap (i + 1)) 2 (early-agree leap) (m - 1) (omega arith))
 
-pub before-later : (leap : Bool) (m : ℕ) → 3 ≤ m → m ≤ 12 → (367 * m - 362) / 12 + cond leap 1 0 - 2 ≡ days-before leap m
+pub before-later : (leap : Bool) (m : ℕ) → 3 ≤ m → m ≤ 12 → evenly m + cond leap 1 0 - 2 ≡ days-before leap m
 before-later leap m l h =
     let e : m - 3 + 3 ≡ m = omega arith in
     rw e at (agree (λ i. evenly (i + 3) + cond leap 1 0 - 2) (λ i. days-before leap (i + 3)) 10 (later-agree leap) (m - 3) (omega arith))
@@ -64,10 +62,6 @@ before-at-most leap m h =
     omega (arith, later-begins-later (days-before leap) (months-rise leap) m 13 (omega arith), months-make-the-year leap, year-at-most leap)
 
 -- ---- the month of a day
-
--- The day as it would be with a February of 30 days.
-abbrev evened : Bool → ℕ → ℕ
-evened leap r = cond (ltb r (59 + cond leap 1 0)) r (r + 2 - cond leap 1 0)
 
 -- The month is one of 12 and the day one of 31: those of the rule.
 pub record Falls (leap : Bool) (r m d : ℕ) : Type 0 where

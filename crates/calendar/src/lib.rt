@@ -2,12 +2,12 @@
 ghost use mathlib.Core.Path.{_≡_};
 ghost use mathlib.Core.Bool.{true, cond};
 ghost use Prim.Native.Nat.{_+_, _-_, _≤_, _<_};
-ghost use lib.Dec.{ltb};
 ghost use Rattle.offer_rules.specs.Numbers.{toNat, between};
 ghost use Rattle.offer_rules.specs.Time.{periods-a-day};
 ghost use Rattle.calendar_rules.specs.Calendar.{first-year, last-day, last-period, is-leap, year-days, month-days, days-before, days-of-years, date-exists, day-number, period-of-day, weekday-of, period-in-day, years-before, into-year, month-at};
 ghost use Rattle.calendar_rules.specs.Answers.{is-date-and-period, period-found, period-answer, date-found, date-answer};
 ghost use Rattle.calendar.specs.Meaning.{period-answer-of, date-answer-of};
+ghost use Rattle.calendar.specs.Evened.{evenly, evened};
 use layout::refusal;
 use layout::time;
 use units::is_beyond;
@@ -48,17 +48,24 @@ fn month_days(leap: bool, month: u64) -> u64
     30 + (month + month / 8) % 2
 }
 
-// The days before a month. With a February of 30 days months of 31 and 30 would share 367 days evenly among twelve; after February it is two days less, in a leap
-// year one.
+// The days before a month, were February one of 30 days.
+fn evenly(month: u64) -> u64
+    requires { ⌜ (1 ≤ month) × (month ≤ 12) ⌝ }
+    ensures { λ r. ⌜ r ≡ evenly month ⌝ }
+{
+    (367 * month - 362) / 12
+}
+
+// After February it is two days less, in a leap year one.
 fn days_before(leap: bool, month: u64) -> u64
     requires { ⌜ (1 ≤ month) × (month ≤ 12) ⌝ }
     ensures { λ r. ⌜ (r ≡ days-before leap month) × (r ≤ 366) ⌝ }
 {
-    let evenly = (367 * month - 362) / 12;
+    let days = evenly(month);
     if month < 3 {
-        return evenly;
+        return days;
     }
-    evenly + counted(leap) - 2
+    days + counted(leap) - 2
 }
 
 // "the day number mod 7, 0 for Monday". 37,450 is 262,144 / 7 and a little more: up to the last day the quotient is the same, and takes no division.
@@ -176,7 +183,7 @@ fn into_year(n: u64) -> u64
 // Day r of a year, r from 0, as it would be with a February of 30 days.
 fn evened(leap: bool, r: u64) -> u64
     requires { ⌜ r < year-days leap ⌝ }
-    ensures { λ s. ⌜ (s ≡ cond (ltb r (59 + cond leap 1 0)) r (r + 2 - cond leap 1 0)) × (s ≤ 367) ⌝ }
+    ensures { λ s. ⌜ (s ≡ evened leap r) × (s ≤ 367) ⌝ }
 {
     let more = counted(leap);
     if r < 59 + more {
@@ -199,7 +206,7 @@ fn month_and_day(leap: bool, r: u64) -> MonthDay
     let month = (12 * s + 373) / 367;
     MonthDay {
         month: month,
-        day: s - (367 * month - 362) / 12 + 1,
+        day: s - evenly(month) + 1,
     }
 }
 

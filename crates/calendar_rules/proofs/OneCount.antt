@@ -1,21 +1,19 @@
 -- The day number is a count day by day, and any other such count is the same: along a month, along a year, from year to year.
 use mathlib.Core.Path.{_≡_, refl}
-use mathlib.Core.Bool.{Bool, true, false, cond}
+use mathlib.Core.Bool.{Bool, true}
 use Prim.Native.Nat.{ℕ, zero, suc, _+_, _-_, _≤_}
 use native.Mathlib.Omega.{arith}
-use Rattle.calendar_rules.specs.Calendar.{first-year, is-leap, month-days, days-before, days-of-years, date-exists, day-number}
+use Rattle.calendar_rules.specs.Calendar.{first-year, is-leap, month-days, days-before, year-days, days-of-years, date-exists, day-number}
 use Rattle.calendar_rules.specs.Claims.{DayByDay}
-use Rattle.calendar_rules.proofs.Lengths.{month-more, year-more, at-least-28}
+use Rattle.calendar_rules.proofs.Lengths.{month-more, year-more, months-make-the-year, at-least-28}
 use Rattle.calendar_rules.proofs.RoundTrips.{exists-says, says-exists}
 
 december-days : (leap : Bool) → month-days leap 12 ≡ 31
 unfolding month-days
 december-days leap = refl
 
-december-31 : (leap : Bool) → days-before leap 12 + 31 ≡ cond leap 366 365
-unfolding days-before month-days
-december-31 true = refl
-december-31 false = refl
+december-31 : (leap : Bool) → days-before leap 12 + 31 ≡ year-days leap
+december-31 leap = omega (arith, month-more leap 12, months-make-the-year leap, december-days leap)
 
 no-days-before-january : (leap : Bool) → days-before leap 1 ≡ 0
 unfolding days-before month-days
@@ -47,7 +45,7 @@ day-by-day =
         let k = y - first-year in
         let e : y + 1 - first-year ≡ suc k = omega arith in
         let f : first-year + k ≡ y = omega arith in
-        let s : days-of-years (suc k) ≡ days-of-years k + cond (is-leap y) 366 365 = rw f at (year-more k) in
+        let s : days-of-years (suc k) ≡ days-of-years k + year-days (is-leap y) = rw f at (year-more k) in
         rw e (omega (arith, december-31 (is-leap y), no-days-before-january (is-leap (y + 1))))
 
 -- ---- any other

@@ -32,20 +32,26 @@ nat-requires-3 c κs = search needs
 nat-requires-4 : tie.Need-nat-requires-4
 nat-requires-4 c κs = search needs
 
+-- The words as counts.
+year-count : (c : tie.After-nat) → c .nat .result ≡ toNat (c .before .before .before .args .year)
+year-count c = c .nat .ensures .0 ∙ ap toNat (toZ-ofZ {w = w32} (c .before .before .before .fits .year))
+
+month-count : (c : tie.After-nat2) → c .nat2 .result ≡ toNat (c .before .before .before .before .args .month)
+month-count c = c .nat2 .ensures .0 ∙ ap toNat (toZ-ofZ {w = w32} (c .before .before .before .before .fits .month))
+
+day-count : (c : tie.After-nat3) → c .nat3 .result ≡ toNat (c .before .before .before .before .before .args .day)
+day-count c = c .nat3 .ensures .0 ∙ ap toNat (toZ-ofZ {w = w32} (c .before .before .before .before .before .fits .day))
+
+period-count : (c : tie.After-nat4) → c .nat4 .result ≡ toNat (c .before .before .before .before .before .before .args .period)
+period-count c = c .nat4 .ensures .0 ∙ ap toNat (toZ-ofZ {w = w32} (c .before .before .before .before .before .before .fits .period))
+
 found-period-requires : tie.Need-found-period-requires
 found-period-requires c κs =
     let d = c .before in
     let m = d .before in
     let y = m .before in
     let t = y .before in
-    let s = t .before .before in
-    rw (
-      c .nat4 .ensures .0 ∙ ap toNat (toZ-ofZ {w = w32} (s .fits .period)),
-      d .nat3 .ensures .0 ∙ ap toNat (toZ-ofZ {w = w32} (s .fits .day)),
-      m .nat2 .ensures .0 ∙ ap toNat (toZ-ofZ {w = w32} (s .fits .month)),
-      y .nat .ensures .0 ∙ ap toNat (toZ-ofZ {w = w32} (s .fits .year)),
-    )
-    (sym (tested (t .before)) ∙ t .if1 .taken)
+    rw (period-count c, day-count d, month-count m, year-count y) (sym (tested (t .before)) ∙ t .if1 .taken)
 
 returns : tie.Need-returns
 unfolding period-answer period-for
@@ -55,15 +61,7 @@ returns c =
     let m = d .before in
     let y = m .before in
     let t = y .before in
-    let s = t .before .before in
-    rw (
-      sym (tested (t .before)) ∙ t .if1 .taken,
-      c .found-period .ensures,
-      q .nat4 .ensures .0 ∙ ap toNat (toZ-ofZ {w = w32} (s .fits .period)),
-      d .nat3 .ensures .0 ∙ ap toNat (toZ-ofZ {w = w32} (s .fits .day)),
-      m .nat2 .ensures .0 ∙ ap toNat (toZ-ofZ {w = w32} (s .fits .month)),
-      y .nat .ensures .0 ∙ ap toNat (toZ-ofZ {w = w32} (s .fits .year)),
-    )
+    rw (sym (tested (t .before)) ∙ t .if1 .taken, c .found-period .ensures, period-count q, day-count d, month-count m, year-count y)
 
 cast-t10 : tie.Need-cast-t10
 cast-t10 c = search needs

@@ -4,17 +4,14 @@ use Rattle.calendar.proofs.Months.{before-early, before-later, before-a
 use Rattle.calendar.proofs.days_before.Statement.{statement}
 use Rattle.calendar.proofs.days_before.Tie as tie
 
-mul-evenly : tie.Need-mul-evenly
-mul-evenly c = search needs
-
-sub-evenly : tie.Need-sub-evenly
-sub-evenly c = search needs
+evenly-requires : tie.Need-evenly-requires
+evenly-requires c κs = search needs
 
 returns : tie.Need-returns
 returns c =
-    let s = c .before in
+    let s = c .before .before in
     let e = before-early (s .args .leap) (s .args .month) (s .pre .0) (c .if1 .taken) in
-    (e, rw e (before-at-most (s .args .leap) (s .args .month) (s .pre .1)))
+    rw (c .before .evenly .ensures) (e, rw e (before-at-most (s .args .leap) (s .args .month) (s .pre .1)))
 
 counted-requires : tie.Need-counted-requires
 counted-requires c κs = search needs
@@ -27,11 +24,11 @@ sub-result c = search needs
 
 returns-2 : tie.Need-returns-2
 returns-2 c =
-    let s = c .before .before in
+    let s = c .before .before .before in
     let e = before-later (s .args .leap) (s .args .month) (c .before .if1 .left) (s .pre .1) in
-    rw (c .counted .ensures .0) (e, rw e (before-at-most (s .args .leap) (s .args .month) (s .pre .1)))
+    rw (c .counted .ensures .0, c .before .before .evenly .ensures) (e, rw e (before-at-most (s .args .leap) (s .args .month) (s .pre .1)))
 
 pub days-before-spec : {M : Type 1} → statement M
 days-before-spec =
     tie.close
-    (tie.spec mul-evenly sub-evenly returns counted-requires add-result sub-result returns-2)
+    (tie.spec evenly-requires returns counted-requires add-result sub-result returns-2)
