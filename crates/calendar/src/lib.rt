@@ -48,9 +48,9 @@ fn month_days(leap: bool, month: u64) -> u64
     30 + (month + month / 8) % 2
 }
 
-// The days before a month, were February one of 30 days.
+// The days before a month, were February one of 30 days; before the year's end as month 13.
 fn evenly(month: u64) -> u64
-    requires { ⌜ (1 ≤ month) × (month ≤ 12) ⌝ }
+    requires { ⌜ (1 ≤ month) × (month ≤ 13) ⌝ }
     ensures { λ r. ⌜ r ≡ evenly month ⌝ }
 {
     (367 * month - 362) / 12

@@ -1,6 +1,5 @@
 -- month_and_day: where the day falls.
 use borrow.Author.Needs.{needs}
-use native.Mathlib.Omega.{arith}
 use Rattle.calendar.proofs.Months.{falls}
 use Rattle.calendar.proofs.month_and_day.Statement.{statement}
 use Rattle.calendar.proofs.month_and_day.Tie as tie
@@ -15,9 +14,7 @@ add-month : tie.Need-add-month
 add-month c = search needs
 
 evenly-requires : tie.Need-evenly-requires
-evenly-requires c κs =
-    let s = c .before in
-    rw (c .evened .ensures .0) (omega arith, falls (s .args .leap) (s .args .r) (s .pre) .to-december)
+evenly-requires c κs = search needs
 
 sub-t6 : tie.Need-sub-t6
 sub-t6 c = search needs
