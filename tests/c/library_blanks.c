@@ -346,6 +346,8 @@ static void never_equal(void)
             CHECK(memcmp(cell_of(&b, s, 0) + 4, closed_up(held).words, sizeof held.words) == 0);
             EQUAL(number_of(&b, filed(STANDING, s, 0, closed_up(held))), BILZHAAN_DUPLICATE);
             EQUAL(number_of(&b, filed(STANDING, s, 0, held)), BILZHAAN_BLANK_REFUSED);
+            host_holds(&b, s, 0, held); /* the pairs before the blank aren't all of it */
+            EQUAL(number_of(&b, filed(STANDING, s, 0, tens(blank, -1))), 0);
         }
 }
 

@@ -430,7 +430,7 @@ def behind_a_variation(t):
 
 
 def never_a_duplicate(t):
-    """18: the held offer filed as it is draws 12; with its blank last it is another offer and accepted, and then a duplicate."""
+    """18: the held offer filed as it is draws 12; with its blank last it is another offer and accepted, and then a duplicate; so are its pairs before the blank."""
     _generation(t)
     for s in range(5):
         for place in range(USED[s] - 1):
@@ -440,6 +440,8 @@ def never_a_duplicate(t):
             t.call(_stands(s, _closed(held)))
             t.call(_stands(s, _closed(held)), 18)
             t.call(_stands(s, held), 12)
+            t.write(_holds(s, 0, held))
+            t.call(_stands(s, held[:place]))
     t.words()
 
 
