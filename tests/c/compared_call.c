@@ -285,9 +285,25 @@ static bool falls(const int32_t *pairs)
     return false;
 }
 
+/* The same filled pairs in the same order. */
+static bool differ_in_blanks_alone(const int32_t *pairs, const int32_t *others)
+{
+    int i = 0, j = 0;
+    for (;;) {
+        while (i < 10 && pairs[2 * i + 1] == 0)
+            i++;
+        while (j < 10 && others[2 * j + 1] == 0)
+            j++;
+        if (i == 10 || j == 10)
+            return i == 10 && j == 10;
+        if (memcmp(pairs + 2 * i++, others + 2 * j++, 2 * sizeof pairs[0]) != 0)
+            return false;
+    }
+}
+
 /* An offer's pairs, and which held offers with such a blank its call compares it with; the words are those before the call. */
 struct gaps {
-    bool is_offer, in_held, in_old, in_back_to;
+    bool is_offer, in_same, in_closed_up, in_old, in_back_to;
     int32_t pairs[20];
 };
 
@@ -306,7 +322,10 @@ static struct gaps gaps_of(const struct list *l, int64_t now)
     int64_t period = varies ? period_of(b) : plain_next_period((uint32_t)now, (uint32_t)(period_of(b) % 336));
     const int32_t *old = varies && variation[0] == period + 1 ? variation : standing;
     bool is_held = standing[0] == 1 && has_gap(standing + 4), is_inside = 30 * period - now < 65;
-    g.in_held = is_held && !varies && memcmp(g.pairs, standing + 4, sizeof g.pairs) == 0;
+    g.in_same = is_held && !varies && memcmp(g.pairs, standing + 4, sizeof g.pairs) == 0;
+    g.in_closed_up = is_held && !varies && differ_in_blanks_alone(g.pairs, standing + 4)
+        && standing[1] == b[BILZHAAN_AT_PROPORTION] * 256 + b[BILZHAAN_AT_PROPORTION + 1]
+        && standing[CELL_RAMPS] == (int64_t)word_at(b, BILZHAAN_AT_RAMP_UP) * 10000 + word_at(b, BILZHAAN_AT_RAMP_DOWN);
     g.in_old = is_inside && (old == variation ? has_gap(variation + 4) : is_held);
     g.in_back_to = is_inside && varies && offers_nothing(b) && is_held;
     return g;
@@ -318,7 +337,8 @@ static void count_held_gaps(const struct list *l, const struct gaps *g, const st
     int32_t kind = l->plain[64 + 32 * (size_t)b[BILZHAAN_AT_FACILITY]];
     bool by_prices = a->number == BILZHAAN_GATE_CLOSED && kind == BILZHAAN_GENERATION
         && b[BILZHAAN_AT_REASON] == BILZHAAN_REASON_SYNCHRONISATION;
-    blanks.filed_again += a->number == BILZHAAN_BLANK_REFUSED && g->in_held;
+    blanks.filed_again += a->number == BILZHAAN_BLANK_REFUSED && g->in_same;
+    blanks.closed_up += a->number == 0 && g->in_closed_up;
     if (a->number != 0 && !by_prices)
         return;
     blanks.old[by_prices] += g->in_old;

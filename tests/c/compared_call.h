@@ -38,6 +38,7 @@ extern struct blanks {
     /* and of held offers, on damaged books: */
     long looked_up;
     long filed_again;        /* 12 of a standing offer with the held one's pairs */
+    long closed_up;          /* one that differs from the held one in the places of its blanks alone, accepted */
     long old[2], back_to[2]; /* inside gate closure, as old and as what a take-back leaves: accepted; 17 by prices alone */
 } blanks;
 /* Offers and their minutes. On sound books: look-ups by word 0 (1 to 4), and by age up to 7 minutes, of a standing offer (0) and a

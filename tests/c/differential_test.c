@@ -179,7 +179,18 @@ static void damaged_near_gate(struct list *l, struct random *r, struct scene *sc
     }
 }
 
-/* Standing offers filed again over their own cells, whose minute, and ramps for some, were damaged. */
+/* A blank put before some pair of the cell's, as an older book may hold it; the last pair makes room. */
+static void open_gap(struct list *l, struct random *r, size_t cell, int s)
+{
+    size_t last = s == 0 ? 9 : 4, blank = (size_t)between(r, 0, (int64_t)last - 1);
+    for (size_t i = last; i > blank; i--)
+        for (size_t word = 4; word <= 5; word++)
+            set_both(l, cell + word + 2 * i, l->plain[cell + word + 2 * (i - 1)]);
+    set_both(l, cell + 4 + 2 * blank, 0);
+    set_both(l, cell + 5 + 2 * blank, 0);
+}
+
+/* Standing offers filed again over their own cells, whose minute, and ramps or blanks for some, were damaged. */
 static void damaged_duplicates(struct list *l, struct random *r, struct scene *scene)
 {
     for (int i = 0; i < SCENE_KEYS && usable_sizes(l) && !l->is_wrong; i++) {
@@ -193,8 +204,12 @@ static void damaged_duplicates(struct list *l, struct random *r, struct scene *s
         set_both(l, cell + CELL_MINUTE, odd_minute(r, l->plain[4]));
         if (one_in(r, 4))
             set_both(l, cell + CELL_RAMPS, odd_ramps(r));
-        struct record record = held_again(scene, f, s, slot);
-        compared_call(l, r, record.bytes, sizeof record.bytes);
+        if (one_in(r, 3))
+            open_gap(l, r, cell, s);
+        for (int closes_up = 0; closes_up <= 1 && !l->is_wrong; closes_up++) {
+            struct record record = held_again(scene, f, s, slot, closes_up);
+            compared_call(l, r, record.bytes, sizeof record.bytes);
+        }
     }
 }
 
@@ -333,8 +348,9 @@ static void print_blanks(void)
     const struct blanks *v = &blanks;
     printf("\n12 by a blank's price %ld, by its place %ld, where prices fall as well %ld; 11 beside such a blank %ld; accepted with blanks"
            " last %ld, without one %ld", v->by_price, v->by_place, v->falling, v->out_of_range, v->last, v->none);
-    printf("; held on damaged books: looked up %ld, filed again %ld; inside gate closure as old, accepted %ld, 17 by prices alone %ld,"
-           " as what a take-back leaves %ld, %ld", v->looked_up, v->filed_again, v->old[0], v->old[1], v->back_to[0], v->back_to[1]);
+    printf("; held on damaged books: looked up %ld, filed again %ld, with blanks last %ld; inside gate closure as old, accepted %ld, 17 by"
+           " prices alone %ld, as what a take-back leaves %ld, %ld", v->looked_up, v->filed_again, v->closed_up, v->old[0], v->old[1],
+           v->back_to[0], v->back_to[1]);
 }
 
 static void tried_blanks(void)
@@ -348,6 +364,7 @@ static void tried_blanks(void)
     tried("offer without a blank", 0, v->none);
     tried("held blank before a filled pair looked up", 0, v->looked_up);
     tried("held blank before a filled pair filed again", 12, v->filed_again);
+    tried("held blank before a filled pair filed with its blanks last", 0, v->closed_up);
     for (int i = 0; i <= 1; i++) {
         tried("held blank before a filled pair as old", i ? 17 : 0, v->old[i]);
         tried("held blank before a filled pair as what a take-back leaves", i ? 17 : 0, v->back_to[i]);

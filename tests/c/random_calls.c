@@ -292,10 +292,26 @@ static void copy_cell(const int32_t *cell, int s, struct record *record)
         set_w(record, i, cell[4 + i]);
 }
 
-struct record held_again(const struct scene *scene, int f, int s, int64_t slot)
+/* The filled pairs first, where a held offer's are not. */
+static void close_up(int s, struct record *record)
+{
+    int filled = 0;
+    for (int i = 0; i < (s == 0 ? 10 : 5); i++) {
+        uint8_t pair[8];
+        if (is_blank(record, i))
+            continue;
+        memcpy(pair, record->bytes + BILZHAAN_AT_W0 + 8 * i, sizeof pair);
+        set_pair(record, i, 0, 0);
+        memcpy(record->bytes + BILZHAAN_AT_W0 + 8 * filled++, pair, sizeof pair);
+    }
+}
+
+struct record held_again(const struct scene *scene, int f, int s, int64_t slot, bool is_closed_up)
 {
     struct record record = offer_for(BILZHAAN_CALL_STANDING, f, s, (int32_t)slot, 0);
     copy_cell(cell_of(scene, f, s, 0, slot), s, &record);
+    if (is_closed_up)
+        close_up(s, &record);
     return record;
 }
 
@@ -340,6 +356,8 @@ static struct record offer_at(struct random *r, struct scene *scene, int which, 
         held = cell_of(scene, f, s, 0, period);
     if (held && one_in(r, varies ? 8 : 3)) {
         copy_cell(held, s, &record);
+        if (one_in(r, 2))
+            close_up(s, &record);
     } else {
         struct draft d;
         if (held && !one_in(r, 3))
