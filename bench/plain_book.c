@@ -17,8 +17,8 @@ enum {
     SCHEDULE_CUTOFF_MINUTES = 5
 };
 
-/* A record's offer as a cell holds it, with what the tests find on the way. Once they pass, no pair behind the filled ones has
- * a quantity; without a filled one the offer is of blanks alone. */
+/* A record's offer as a cell holds it, with what the tests find on the way. Once they pass, the pairs after the filled ones
+ * are empty; without a filled one the offer is of blanks alone. */
 struct offer {
     int32_t words[CELL_WORDS];
     int32_t total;
@@ -214,7 +214,7 @@ static int pairs_number(const struct book *b, const uint8_t *r, struct offer *o)
     int pairs = s == 0 ? PAIRS : 5, i;
     int32_t low = s == 0 ? b->words[HEAD_LIMITS] : 0;
     int32_t high = b->words[HEAD_LIMITS + 1 + s];
-    int32_t last = high, total = 0; /* so that the first pair is no rise */
+    int32_t last = high, total = 0; /* no price is above `high`: the first pair is no rise */
     int rises = 0;
     memset(o->words + CELL_PAIRS, 0, 2 * PAIRS * sizeof o->words[0]);
     for (i = 0; i < pairs; i++) {

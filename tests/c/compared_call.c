@@ -307,27 +307,38 @@ struct gaps {
     int32_t pairs[20];
 };
 
+static bool has_same_rates(const int32_t *cell, const uint8_t *b)
+{
+    return cell[1] == b[BILZHAAN_AT_PROPORTION] * 256 + b[BILZHAAN_AT_PROPORTION + 1]
+        && cell[CELL_RAMPS] == (int64_t)word_at(b, BILZHAAN_AT_RAMP_UP) * 10000 + word_at(b, BILZHAAN_AT_RAMP_DOWN);
+}
+
+static void find_held_gaps(const struct list *l, int64_t now, struct gaps *g)
+{
+    const uint8_t *b = l->bytes;
+    bool varies = b[BILZHAAN_AT_CALL] == BILZHAAN_CALL_VARIATION;
+    int64_t period = varies ? period_of(b) : plain_next_period((uint32_t)now, (uint32_t)(period_of(b) % 336));
+    const int32_t *standing = cell_of_call(l, 0), *variation = cell_of_call(l, 1);
+    bool is_held = standing[0] == 1 && has_gap(standing + 4), is_inside = 30 * period - now < 65;
+    bool is_varied = varies && variation[0] == period + 1;
+    g->in_same = is_held && !varies && memcmp(g->pairs, standing + 4, sizeof g->pairs) == 0;
+    g->in_closed_up = is_held && !varies && differ_in_blanks_alone(g->pairs, standing + 4) && has_same_rates(standing, b);
+    g->in_old = is_inside && (is_varied ? has_gap(variation + 4) : is_held);
+    g->in_back_to = is_inside && is_held && varies && offers_nothing(b);
+}
+
 static struct gaps gaps_of(const struct list *l, int64_t now)
 {
     struct gaps g = {.is_offer = false};
     const uint8_t *b = l->bytes;
-    bool varies = b[BILZHAAN_AT_CALL] == BILZHAAN_CALL_VARIATION;
-    if (!usable_sizes(l) || now < 0 || now > 1000000000 || list_machine_record_number(b, l->length, l->plain[2], l->plain[3]) != 0
-        || (b[BILZHAAN_AT_CALL] != BILZHAAN_CALL_STANDING && !varies))
+    if (!usable_sizes(l) || now < 0 || now > 1000000000 || list_machine_record_number(b, l->length, l->plain[2], l->plain[3]) != 0)
         return g;
-    g.is_offer = true;
+    g.is_offer = b[BILZHAAN_AT_CALL] == BILZHAAN_CALL_STANDING || b[BILZHAAN_AT_CALL] == BILZHAAN_CALL_VARIATION;
+    if (!g.is_offer)
+        return g;
     for (int i = 0; i < 20; i++)
         g.pairs[i] = word_at(b, BILZHAAN_AT_W0 + 4 * i);
-    const int32_t *standing = cell_of_call(l, 0), *variation = cell_of_call(l, 1);
-    int64_t period = varies ? period_of(b) : plain_next_period((uint32_t)now, (uint32_t)(period_of(b) % 336));
-    const int32_t *old = varies && variation[0] == period + 1 ? variation : standing;
-    bool is_held = standing[0] == 1 && has_gap(standing + 4), is_inside = 30 * period - now < 65;
-    g.in_same = is_held && !varies && memcmp(g.pairs, standing + 4, sizeof g.pairs) == 0;
-    g.in_closed_up = is_held && !varies && differ_in_blanks_alone(g.pairs, standing + 4)
-        && standing[1] == b[BILZHAAN_AT_PROPORTION] * 256 + b[BILZHAAN_AT_PROPORTION + 1]
-        && standing[CELL_RAMPS] == (int64_t)word_at(b, BILZHAAN_AT_RAMP_UP) * 10000 + word_at(b, BILZHAAN_AT_RAMP_DOWN);
-    g.in_old = is_inside && (old == variation ? has_gap(variation + 4) : is_held);
-    g.in_back_to = is_inside && varies && offers_nothing(b) && is_held;
+    find_held_gaps(l, now, &g);
     return g;
 }
 
