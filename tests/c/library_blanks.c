@@ -275,19 +275,18 @@ static uint32_t back(struct book *b, int s, struct pairs varied, struct pairs he
 /* Old and new are walked whole where a variation is taken back: the one has a blank before filled pairs, or the other. */
 static void taken_back_between(struct book *b, int s, struct pairs varied, struct pairs held, int last)
 {
-    int32_t *quantity = &held.words[2 * last + 1];
+    int32_t price = held.words[2 * last];
+    struct pairs less = with(held, last, price, 9), more = with(held, last, price, 11);
     EQUAL(back(b, s, varied, held, 1), 0);
     LOOK_UP_GIVES(b, 0, s, PERIOD, 0, BILZHAAN_STANDING_IN_FORCE, 10 * (pairs_of(s) - 1));
-    EQUAL(back(b, s, varied, with(held, last, held.words[2 * last] + 1, 1), 1), BILZHAAN_GATE_CLOSED);
+    EQUAL(back(b, s, varied, with(held, last, price + 1, 1), 1), BILZHAAN_GATE_CLOSED);
     for (int reason = 3; reason <= 5; reason++)
         EQUAL(back(b, s, varied, held, reason), BILZHAAN_GATE_CLOSED);
-    --*quantity;
-    EQUAL(back(b, s, varied, held, 3), s == 0 ? 0 : BILZHAAN_GATE_CLOSED);
-    EQUAL(back(b, s, varied, held, 4), BILZHAAN_GATE_CLOSED);
-    *quantity += 2;
-    EQUAL(back(b, s, varied, held, 3), BILZHAAN_GATE_CLOSED);
-    EQUAL(back(b, s, varied, held, 4), 0);
-    EQUAL(back(b, s, varied, held, 5), 0);
+    EQUAL(back(b, s, varied, less, 3), s == 0 ? 0 : BILZHAAN_GATE_CLOSED);
+    EQUAL(back(b, s, varied, less, 4), BILZHAAN_GATE_CLOSED);
+    EQUAL(back(b, s, varied, more, 3), BILZHAAN_GATE_CLOSED);
+    EQUAL(back(b, s, varied, more, 4), 0);
+    EQUAL(back(b, s, varied, more, 5), 0);
 }
 
 static void walked_whole(void)
@@ -317,8 +316,7 @@ static void damaged(void)
         looked_up(&b, s, 0, apart);
         as_old(&b, STANDING, 0, s, apart);
         as_old(&b, VARIATION, 1, s, apart);
-        struct pairs first_last = with(blanks(), 9, 100, 20);
-        as_old(&b, STANDING, 0, s, first_last);
+        as_old(&b, STANDING, 0, s, with(blanks(), 9, 100, 20));
         EQUAL(back(&b, s, apart, with(apart, 9, 201, 10), 1), BILZHAAN_GATE_CLOSED);
         EQUAL(back(&b, s, apart, with(apart, 9, 200, 11), 4), 0);
         for (int i = 1; i < 9; i++) {
