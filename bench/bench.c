@@ -14,14 +14,17 @@
 #include <time.h>
 
 enum {
-    F = 64, S = 5, NOW = 100000, /* minute 100,000: period 3333 is on */
+    F = 64, S = 5, NOW = 100019, /* the last minute of period 3333: three are inside gate closure */
     EARLIER = NOW - BILZHAAN_SCHEDULE_CUTOFF_MINUTES, /* what is filed then isn't fresh */
-    FIRST_PERIOD = NOW / 30 + 1, OPEN_PERIOD = FIRST_PERIOD + 3, HORIZON = 48 * (NOW / 1440 + 7),
+    FIRST_PERIOD = NOW / 30 + 1, LAST_GATE_PERIOD = FIRST_PERIOD + 2, OPEN_PERIOD = FIRST_PERIOD + 3,
+    HORIZON = 48 * (NOW / 1440 + 7),
     READ_PERIOD = OPEN_PERIOD + 240, TOTAL_KEYS = 64, MOST_KEYS = 2048,
     FIRST_YEAR = 2024, YEARS = 76, DATED_PERIODS = 48 * 27759
 };
 
 _Static_assert(READ_PERIOD + TOTAL_KEYS <= HORIZON, "every period that is read is inside the horizon");
+_Static_assert(30 * LAST_GATE_PERIOD - NOW < BILZHAAN_GATE_MINUTES && 30 * OPEN_PERIOD - NOW >= BILZHAAN_GATE_MINUTES,
+               "which periods are inside gate closure");
 
 static const int32_t limits[6] = {-450000, 450000, 450000, 450000, 450000, 450000};
 
@@ -126,10 +129,10 @@ struct kind {
     int32_t first; /* of a look-up: word 0 */
 };
 
-static struct kind kinds[64];
+static struct kind kinds[96];
 static int kind_count;
 static size_t keys = MOST_KEYS; /* fewer where instructions are counted */
-static size_t in_gate, links_in_gate; /* of these, those inside gate closure */
+static size_t in_gate, links_in_gate, few_links_in_gate; /* of these, those inside gate closure */
 
 static struct record *records_of(size_t count)
 {
@@ -150,12 +153,20 @@ static int below(int n)
 }
 
 /* No two scattered offers are for one cell. Variations are taken back at keys of their own, and at others stay as EARLIER
- * left them. */
+ * left them. Offers of two pairs have keys of their own (few), inside gate closure those of its last period. */
 static struct key {
     int f, s;
     int32_t period;
 } *energy_keys, *reserve_keys, *gate_keys, *back_keys, *earlier_keys, *back_gate_keys, *link_gate_keys;
+static struct key *few_keys, *few_gate_keys, *few_link_gate_keys;
 static struct key total_keys[TOTAL_KEYS], read_keys[TOTAL_KEYS * F]; /* standing offers of every facility, of EARLIER */
+
+static void swap_keys(struct key *of, size_t i, size_t j)
+{
+    struct key swapped = of[i];
+    of[i] = of[j];
+    of[j] = swapped;
+}
 
 static struct key *distinct_keys(size_t count, int service, int services, int first, int periods)
 {
@@ -168,26 +179,43 @@ static struct key *distinct_keys(size_t count, int service, int services, int fi
         every[i].s = service + (int)(i / F % (size_t)services);
         every[i].period = first + (int)(i / F / (size_t)services);
     }
-    for (size_t i = 0; i < count; i++) {
-        size_t j = i + (size_t)below((int)(all - i));
-        struct key swapped = every[i];
-        every[i] = every[j];
-        every[j] = swapped;
-    }
+    for (size_t i = 0; i < count; i++)
+        swap_keys(every, i, i + (size_t)below((int)(all - i)));
     return every;
 }
+
+/* Hot runs keep to the first key: of the same service, so that two rows can be held together. */
+static void start_with_service(int service, struct key *of, size_t count)
+{
+    size_t i = 0;
+    while (i < count - 1 && of[i].s != service)
+        i++;
+    swap_keys(of, 0, i);
+}
+
+static int pairs_of(struct key k) { return k.s == 0 ? BILZHAAN_PAIRS_ENERGY : BILZHAAN_PAIRS_OTHER; }
 
 /* An offer with all its pairs filled; `step` tells apart offers for one key. */
 static struct record full_offer(int call, struct key k, int reason, int step)
 {
     int32_t period = call == BILZHAAN_CALL_STANDING ? k.period % BILZHAAN_WEEK_SLOTS : k.period;
     struct record r = offer_for(call, k.f, k.s, period, reason);
-    for (int i = 0; i < (k.s == 0 ? 10 : 5); i++)
+    for (int i = 0; i < pairs_of(k); i++)
         set_pair(&r, i, 1000 * (i + 1), 20 + step);
     if (k.s == 0)
         set_ramps(&r, 50, 40);
     else if (k.s <= 3)
         set_proportion(&r, 500);
+    return r;
+}
+
+/* Two pairs, and blanks after them. One tenth more in the first step, as in each full offer inside gate closure. */
+static struct record few_pairs(int call, struct key k, int reason, int step)
+{
+    struct record r = full_offer(call, k, reason, 0);
+    set_pair(&r, 1, 2000, step == 0 ? 21 : 20);
+    for (int i = 2; i < pairs_of(k); i++)
+        set_pair(&r, i, 0, 0);
     return r;
 }
 
@@ -249,14 +277,21 @@ static struct record total_for(struct key k, int step) { (void)step; return tota
 static struct record falling_for(struct key k, int step)
 {
     struct record r = standing_for(k, step);
-    set_pair(&r, k.s == 0 ? 9 : 4, 1000, 20);
+    set_pair(&r, pairs_of(k) - 1, 1000, 20);
+    return r;
+}
+
+static struct record blank_before_filled_for(struct key k, int step)
+{
+    struct record r = standing_for(k, step);
+    set_pair(&r, pairs_of(k) - 2, 0, 0);
     return r;
 }
 
 static struct record above_for(struct key k, int step)
 {
     struct record r = standing_for(k, step);
-    set_pair(&r, k.s == 0 ? 9 : 4, 99000, 9000);
+    set_pair(&r, pairs_of(k) - 1, 99000, 9000);
     return r;
 }
 
@@ -314,7 +349,7 @@ static struct record inside_gate_for(struct key k, int step)
 static struct record taken_back_for(struct key k, int step)
 {
     struct record r = variation_for(k, step);
-    for (int i = 0; i < (k.s == 0 ? 10 : 5); i++)
+    for (int i = 0; i < pairs_of(k); i++)
         set_pair(&r, i, 0, 0);
     return r;
 }
@@ -329,15 +364,16 @@ static struct record taken_back_inside_for(struct key k, int step)
 static struct record last_tenths_differ_for(struct key k, int step)
 {
     struct record r = inside_gate_for(k, step);
-    set_pair(&r, k.s == 0 ? 9 : 4, 99000, 20);
+    set_pair(&r, pairs_of(k) - 1, 99000, 20);
     return r;
 }
 
 /* One tenth more for a shortfall, then one less for a surplus, and so by turns. */
+static int reason_of_a_link(int step) { return step == 0 ? BILZHAAN_REASON_SHORTFALL : BILZHAAN_REASON_ENERGY_SURPLUS; }
+
 static struct record link_inside_gate_for(struct key k, int step)
 {
-    int reason = step == 0 ? BILZHAAN_REASON_SHORTFALL : BILZHAAN_REASON_ENERGY_SURPLUS;
-    struct record r = full_offer(BILZHAAN_CALL_VARIATION, k, reason, 0);
+    struct record r = full_offer(BILZHAAN_CALL_VARIATION, k, reason_of_a_link(step), 0);
     set_pair(&r, 9, 10000, step == 0 ? 21 : 20);
     return r;
 }
@@ -346,8 +382,7 @@ static struct record link_inside_gate_for(struct key k, int step)
 static struct record standing_inside_gate_for(struct key k, int step)
 {
     struct record r = full_offer(BILZHAAN_CALL_STANDING, k, BILZHAAN_REASON_SYNCHRONISATION, 0);
-    int last = k.s == 0 ? 9 : 4;
-    set_pair(&r, last, 1000 * (last + 1), step == 0 ? 21 : 20);
+    set_pair(&r, pairs_of(k) - 1, 1000 * pairs_of(k), step == 0 ? 21 : 20);
     return r;
 }
 
@@ -369,8 +404,31 @@ static struct record standing_last_tenths_differ_for(struct key k, int step)
 static struct record link_standing_inside_gate_for(struct key k, int step)
 {
     struct record r = standing_inside_gate_for(k, step);
-    r.bytes[BILZHAAN_AT_REASON] = step == 0 ? BILZHAAN_REASON_SHORTFALL : BILZHAAN_REASON_ENERGY_SURPLUS;
+    r.bytes[BILZHAAN_AT_REASON] = (uint8_t)reason_of_a_link(step);
     return r;
+}
+
+static struct record few_standing_for(struct key k, int step) { return few_pairs(BILZHAAN_CALL_STANDING, k, 0, step); }
+static struct record few_variation_for(struct key k, int step) { return few_pairs(BILZHAAN_CALL_VARIATION, k, 0, step); }
+
+static struct record few_standing_inside_gate_for(struct key k, int step)
+{
+    return few_pairs(BILZHAAN_CALL_STANDING, k, BILZHAAN_REASON_SYNCHRONISATION, step);
+}
+
+static struct record few_inside_gate_for(struct key k, int step)
+{
+    return few_pairs(BILZHAAN_CALL_VARIATION, k, BILZHAAN_REASON_SYNCHRONISATION, step);
+}
+
+static struct record few_link_standing_inside_gate_for(struct key k, int step)
+{
+    return few_pairs(BILZHAAN_CALL_STANDING, k, reason_of_a_link(step), step);
+}
+
+static struct record few_link_inside_gate_for(struct key k, int step)
+{
+    return few_pairs(BILZHAAN_CALL_VARIATION, k, reason_of_a_link(step), step);
 }
 
 static struct record nothing_for(struct key k, int step)
@@ -437,9 +495,11 @@ static void make_kinds(void)
 {
     in_gate = keys < 256 ? keys : 256;
     links_in_gate = keys < 128 ? keys : 128; /* two periods of 64 links */
-    energy_keys = distinct_keys(3 * keys, 0, 1, OPEN_PERIOD, 240);
+    few_links_in_gate = keys < 64 ? keys : 64; /* and the third */
+    energy_keys = distinct_keys(4 * keys, 0, 1, OPEN_PERIOD, 240);
     back_keys = energy_keys + keys;
     earlier_keys = back_keys + keys;
+    few_keys = earlier_keys + keys;
     reserve_keys = distinct_keys(keys, 1, 3, OPEN_PERIOD, 240);
     gate_keys = distinct_keys(2 * in_gate, 0, 4, FIRST_PERIOD, 2);
     back_gate_keys = gate_keys + in_gate;
@@ -448,13 +508,12 @@ static void make_kinds(void)
         for (int f = 0; f < F; f++)
             read_keys[TOTAL_KEYS * f + i] = (struct key){f, total_keys[i].s, total_keys[i].period};
     }
-    for (int i = 0; i < TOTAL_KEYS * F; i++) {
-        int j = below(TOTAL_KEYS * F);
-        struct key swapped = read_keys[i];
-        read_keys[i] = read_keys[j];
-        read_keys[j] = swapped;
-    }
+    for (size_t i = 0; i < TOTAL_KEYS * F; i++)
+        swap_keys(read_keys, i, (size_t)below(TOTAL_KEYS * F));
     link_gate_keys = distinct_keys(links_in_gate, 0, 1, FIRST_PERIOD, 2);
+    few_gate_keys = distinct_keys(in_gate, 0, 4, LAST_GATE_PERIOD, 1);
+    start_with_service(gate_keys[0].s, few_gate_keys, in_gate);
+    few_link_gate_keys = distinct_keys(few_links_in_gate, 0, 1, LAST_GATE_PERIOD, 1);
 
     add_one("1 clock", 0, clock_at(NOW));
     add_one("1 clock, backwards", 6, clock_at(NOW - 1));
@@ -463,15 +522,20 @@ static void make_kinds(void)
     add_calls("2 capability, no such kind", 8, energy_keys, keys, 1, no_kind_for);
     add_calls("2 capability, last word wrong", 8, energy_keys, keys, 1, last_mark_for);
     add_calls("3 standing, energy", 0, energy_keys, keys, 2, standing_for);
+    add_calls("3 standing, energy, two pairs", 0, few_keys, keys, 2, few_standing_for);
     add_calls("3 standing, reserve", 0, reserve_keys, keys, 2, standing_for);
     add_calls("3 standing, energy of a link", 0, energy_keys, keys, 2, standing_for)->of_links = true;
     add_calls("3 standing, reserve of a link", 9, reserve_keys, keys, 1, standing_for)->of_links = true;
     add_calls("3 standing, no such slot", 10, energy_keys, keys, 1, no_slot_for);
+    add_calls("3 standing, blank before a filled pair", 12, energy_keys, keys, 1, blank_before_filled_for);
     add_calls("3 standing, prices don't rise", 13, energy_keys, keys, 1, falling_for);
     add_calls("3 standing, above capacity", 16, energy_keys, keys, 1, above_for);
     add_calls("3 standing, inside gate closure", 0, gate_keys, in_gate, 2, standing_inside_gate_for);
+    add_calls("3 standing, inside gate closure, two pairs", 0, few_gate_keys, in_gate, 2, few_standing_inside_gate_for);
     add_calls("3 standing, inside gate closure, energy of a link", 0, link_gate_keys, links_in_gate, 2,
               link_standing_inside_gate_for)->of_links = true;
+    add_calls("3 standing, inside gate closure, energy of a link, two pairs", 0, few_link_gate_keys, few_links_in_gate, 2,
+              few_link_standing_inside_gate_for)->of_links = true;
     add_calls("3 standing, inside gate closure without a reason", 17, back_gate_keys, in_gate, 1, standing_for);
     add_calls("3 standing, reason doesn't hold", 17, gate_keys, in_gate, 1, standing_reason_fails_for);
     add_calls("3 standing, reason not open to a link", 17, link_gate_keys, links_in_gate, 1,
@@ -479,11 +543,15 @@ static void make_kinds(void)
     add_calls("3 standing, last tenths differ", 17, gate_keys, in_gate, 1, standing_last_tenths_differ_for);
     add_calls("3 standing, duplicate", 18, read_keys, keys, 1, standing_for);
     add_calls("4 variation, gate open, energy", 0, energy_keys, keys, 2, variation_for);
+    add_calls("4 variation, gate open, energy, two pairs", 0, few_keys, keys, 2, few_variation_for);
     add_calls("4 variation, gate open, reserve", 0, reserve_keys, keys, 2, variation_for);
     add_calls("4 variation, gate open, energy of a link", 0, energy_keys, keys, 2, variation_for)->of_links = true;
     add_calls("4 variation, inside gate closure", 0, gate_keys, in_gate, 1, inside_gate_for);
+    add_calls("4 variation, inside gate closure, two pairs", 0, few_gate_keys, in_gate, 1, few_inside_gate_for);
     add_calls("4 variation, inside gate closure, energy of a link", 0, link_gate_keys, links_in_gate, 2,
               link_inside_gate_for)->of_links = true;
+    add_calls("4 variation, inside gate closure, energy of a link, two pairs", 0, few_link_gate_keys, few_links_in_gate, 2,
+              few_link_inside_gate_for)->of_links = true;
     add_calls("4 variation, reason not open to a link", 17, link_gate_keys, links_in_gate, 1,
               inside_gate_for)->of_links = true;
     add_calls("4 variation taken back, gate open", 0, back_keys, keys, 1, taken_back_for);
@@ -609,6 +677,8 @@ static void set_up(const struct subject *who)
         file(who, standing_for(energy_keys[i], 1));
         file(who, standing_for(reserve_keys[i], 1));
         file(who, standing_for(back_keys[i], 1));
+        file(who, few_standing_for(few_keys[i], 1));
+        file(who, few_variation_for(few_keys[i], 1));
         file(who, variation_for(energy_keys[i], 1));
         file(who, variation_for(reserve_keys[i], 1));
         file(who, variation_for(back_keys[i], 0));
@@ -618,6 +688,8 @@ static void set_up(const struct subject *who)
         file(who, standing_for(gate_keys[i], 0)); /* hidden by the variation */
         file(who, standing_for(back_gate_keys[i], 0));
         file(who, inside_gate_for(back_gate_keys[i], 0));
+        file(who, few_inside_gate_for(few_gate_keys[i], 0));
+        file(who, few_standing_for(few_gate_keys[i], 1)); /* hidden too */
     }
 }
 
@@ -630,14 +702,16 @@ static void set_up_links(const struct subject *who)
     file_in(who, who->links, clock_at(NOW));
     for (k.f = 0; k.f < F; k.f++)
         file_in(who, who->links, link_for(k, 0));
-    file_in(who, who->links, notice_of(BILZHAAN_NOTICE_ENERGY_SURPLUS, FIRST_PERIOD, FIRST_PERIOD + 1));
-    file_in(who, who->links, notice_of(BILZHAAN_NOTICE_SHORTFALL, FIRST_PERIOD, FIRST_PERIOD + 1));
+    file_in(who, who->links, notice_of(BILZHAAN_NOTICE_ENERGY_SURPLUS, FIRST_PERIOD, LAST_GATE_PERIOD));
+    file_in(who, who->links, notice_of(BILZHAAN_NOTICE_SHORTFALL, FIRST_PERIOD, LAST_GATE_PERIOD));
     for (size_t i = 0; i < keys; i++) {
         file_in(who, who->links, standing_for(energy_keys[i], 1));
         file_in(who, who->links, variation_for(energy_keys[i], 1));
     }
     for (size_t i = 0; i < links_in_gate; i++)
         file_in(who, who->links, standing_for(link_gate_keys[i], 0));
+    for (size_t i = 0; i < few_links_in_gate; i++)
+        file_in(who, who->links, few_standing_for(few_link_gate_keys[i], 1));
 }
 
 static void unexpected(const struct kind *kind, const struct subject *who)

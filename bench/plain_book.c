@@ -10,17 +10,19 @@ enum {
     HEAD_WORDS = 64,
     BLOCK_OUTAGE = 17, BLOCK_WORDS = 32,
     CELL_PROPORTION = 1, CELL_RAMPS = 2, CELL_MINUTE = 3, CELL_PAIRS = 4, CELL_WORDS = 24,
+    PAIRS = 10, /* in a cell */
     MARK = 0x534F42, BOOK_VERSION = 2,
     SLOTS = 336,
     RAMP_MOST = 9999, RAMP_UNIT = RAMP_MOST + 1, /* ramp up times RAMP_UNIT plus ramp down is one word */
     SCHEDULE_CUTOFF_MINUTES = 5
 };
 
-/* A record's offer as a cell holds it, with what the tests find on the way. Once they pass, quantities are 0 or more, so
- * that a total of 0 is an offer of blanks alone. */
+/* A record's offer as a cell holds it, with what the tests find on the way. Once they pass, the pairs after the filled ones
+ * are empty; without a filled one the offer is of blanks alone. */
 struct offer {
     int32_t words[CELL_WORDS];
     int32_t total;
+    int filled; /* pairs before the first blank */
 };
 
 struct book {
@@ -182,36 +184,55 @@ uint32_t plain_next_period(uint32_t minute, uint32_t slot)
 
 /* ---- offers: 11 to 16 ---- */
 
+static inline const uint8_t *pair_of(const uint8_t *r, int i) { return r + 32 + 8 * i; }
+
+static inline bool is_empty(const uint8_t *pair)
+{
+    uint64_t both;
+    memcpy(&both, pair, 8);
+    return both == 0;
+}
+
+/* Of the pairs from the first blank on: none may hold anything, nor damaged limits exclude the price 0 of an empty one. */
+static int blanks_number(const uint8_t *r, int first, int pairs, int32_t low, int32_t high)
+{
+    int i = first;
+    while (i < pairs && is_empty(pair_of(r, i)))
+        i++;
+    if (i == pairs)
+        return outside(0, low, high) ? 11 : 0;
+    for (i = first; i < pairs; i++)
+        if (outside(load(pair_of(r, i) + 4), 0, 99999) || outside(load(pair_of(r, i)), low, high))
+            return 11;
+    return 12;
+}
+
+/* Price order and total go as far as the first blank. */
 static int pairs_number(const struct book *b, const uint8_t *r, struct offer *o)
 {
     int s = r[7];
-    int pairs = s == 0 ? 10 : 5;
+    int pairs = s == 0 ? PAIRS : 5, i;
     int32_t low = s == 0 ? b->words[HEAD_LIMITS] : 0;
     int32_t high = b->words[HEAD_LIMITS + 1 + s];
-    bool out = false, priced_blank = false, falls = false, first = true;
-    int32_t last = 0, total = 0;
-    for (int i = 0; i < pairs; i++) {
-        int32_t price = load(r + 32 + 8 * i);
-        int32_t quantity = load(r + 36 + 8 * i);
+    int32_t last = high, total = 0; /* no price is above `high`: the first pair is no rise */
+    int rises = 0;
+    memset(o->words + CELL_PAIRS, 0, 2 * PAIRS * sizeof o->words[0]);
+    for (i = 0; i < pairs; i++) {
+        int32_t price = load(pair_of(r, i)), quantity = load(pair_of(r, i) + 4);
+        if (quantity == 0)
+            break;
+        if (outside(quantity, 1, 99999) || outside(price, low, high))
+            return 11;
         o->words[CELL_PAIRS + 2 * i] = price;
         o->words[CELL_PAIRS + 2 * i + 1] = quantity;
-        if (outside(quantity, 0, 99999) || outside(price, low, high)) {
-            out = true;
-            break;
-        }
-        if (quantity == 0) {
-            priced_blank |= price != 0;
-            continue;
-        }
-        falls |= !first && price <= last;
-        first = false;
+        rises += price > last;
         last = price;
         total += quantity;
     }
-    if (s != 0)
-        memset(o->words + CELL_PAIRS + 10, 0, 10 * sizeof o->words[0]);
     o->total = total;
-    return out ? 11 : priced_blank ? 12 : falls ? 13 : 0;
+    o->filled = i;
+    int number = i < pairs ? blanks_number(r, i, pairs, low, high) : 0;
+    return number != 0 ? number : rises + 1 < i ? 13 : 0;
 }
 
 static inline bool is_ramp_refused(int32_t ramp, int32_t most)
@@ -250,32 +271,33 @@ static inline int64_t counted(int32_t quantity)
     return quantity > 0 ? quantity : 0;
 }
 
-/* Of a cell, or of none. */
+/* Of a held offer, to its last pair, or of none. */
 static int64_t gate_total(const int32_t *cell)
 {
     if (!cell)
         return 0;
     int64_t total = 0;
-    for (int i = 0; i < 10; i++)
+    for (int i = 0; i < PAIRS; i++)
         total += counted(cell[CELL_PAIRS + 2 * i + 1]);
     return total;
 }
 
-/* Walks both offers at once, as far as the shorter goes, a stretch of equal price at a time. */
-static bool same_prices(const int32_t *old, const int32_t *new)
+/* Walks both offers at once, as far as the shorter goes, a stretch of equal price at a time: the old one, which is held, to its
+ * last pair, of the new one as many pairs as are said. */
+static bool same_prices(const int32_t *old, const int32_t *new, int new_pairs)
 {
     int i = 0, j = 0;
     int64_t left_old = 0, left_new = 0;
     for (;;) {
-        while (left_old == 0) {
-            if (i == 10)
-                return true;
-            left_old = counted(old[CELL_PAIRS + 2 * i++ + 1]);
-        }
         while (left_new == 0) {
-            if (j == 10)
+            if (j == new_pairs)
                 return true;
             left_new = counted(new[CELL_PAIRS + 2 * j++ + 1]);
+        }
+        while (left_old == 0) {
+            if (i == PAIRS)
+                return true;
+            left_old = counted(old[CELL_PAIRS + 2 * i++ + 1]);
         }
         if (old[CELL_PAIRS + 2 * (i - 1)] != new[CELL_PAIRS + 2 * (j - 1)])
             return false;
@@ -299,10 +321,11 @@ static bool gate_refuses(const struct book *b, const uint8_t *r, int32_t period,
     int s = r[7], reason = r[12];
     if (!has_bit(kinds[block[0]].reasons, reason)) /* 0 is in no kind's */
         return true;
-    bool varies = r[5] == 4, takes_back = varies && o->total == 0;
+    bool varies = r[5] == 4, takes_back = varies && o->filled == 0;
     const int32_t *old = varies ? in_force(b, r[6], s, period) : held_standing(b, r[6], s, period % SLOTS);
-    /* after a take-back the standing offer stands, which may be damaged */
+    /* after a take-back the standing offer stands, which is held: its blanks may stand anywhere, and it may be damaged */
     const int32_t *new = takes_back ? held_standing(b, r[6], s, period % SLOTS) : o->words;
+    int new_pairs = takes_back ? PAIRS : o->filled;
     int64_t rise = 0;
     if (reason >= 3 && reason <= 5)
         rise = (takes_back ? gate_total(new) : o->total) - gate_total(old);
@@ -315,7 +338,7 @@ static bool gate_refuses(const struct book *b, const uint8_t *r, int32_t period,
     case 4: holds = in_window(notices + 2, period) && rise > 0; break;
     case 5: holds = in_window(notices + 4, period) && rise > 0; break;
     }
-    return !holds || (old && new && !same_prices(old, new));
+    return !holds || (old && new && !same_prices(old, new, new_pairs));
 }
 
 /* ---- the calls, each after 2, 3 and 4 ---- */
@@ -398,7 +421,7 @@ static int file_variation(const struct book *b, const uint8_t *r)
     if (gate_refuses(b, r, period, block, &o))
         return 17;
     int32_t *cell = cell_of(b, r[6], r[7], 1, period % SLOTS);
-    if (o.total == 0) {
+    if (o.filled == 0) {
         memset(cell, 0, sizeof o.words);
         return 0;
     }
@@ -443,7 +466,7 @@ static int file_withdrawal(const struct book *b, const uint8_t *r)
 static inline int64_t quantities(const int32_t *cell)
 {
     int64_t sum = 0;
-    for (int i = 0; i < 10; i++)
+    for (int i = 0; i < PAIRS; i++)
         sum += cell[CELL_PAIRS + 2 * i + 1];
     return sum;
 }

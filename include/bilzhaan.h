@@ -34,8 +34,8 @@
 
 /* ---- versions and sizes ---- */
 
-/* This header's version, 1.6.0: 10,000 times the first number, 100 times the second, and the third. */
-#define BILZHAAN_VERSION 10600
+/* This header's version, 1.7.0: 10,000 times the first number, 100 times the second, and the third. */
+#define BILZHAAN_VERSION 10700
 
 /* A book of another version than BILZHAAN_BOOK_VERSION, head word 1, is refused with 1. Nothing converts a stored book of
  * version 1, whose cells hold no minute: its host opens a new book and files again, from its own records, what was accepted,
@@ -86,6 +86,9 @@ enum {
 };
 
 /* Byte 5, with what each call uses. Bytes that a call doesn't use are zero.
+ * A pair with quantity 0 is blank, and an offer's blank pairs come last: one before a pair that isn't blank draws 12. A library
+ * older than 1.7.0 (bilzhaan_version) takes blanks anywhere, and a book keeps what was accepted so: it is looked up, totalled
+ * and compared in the gate with every pair, and draws 12 where it is filed again.
  * A variation whose pairs are all blank takes the period's variation back, if there is one: the standing offer stands
  * again, or nothing does and a look-up draws 19. It doesn't mean 0.0 MW, which can't be filed for one period; the least
  * is 0.1 MW. A standing offer whose pairs are all blank does mean 0.0 MW, every week until the next. */
@@ -169,7 +172,7 @@ enum {
     BILZHAAN_NOT_REGISTERED = 9,       /* the facility isn't registered for the service */
     BILZHAAN_PERIOD_REFUSED = 10,      /* no such slot; period begun or past the horizon (look-up and total too) */
     BILZHAAN_OUT_OF_RANGE = 11,        /* reason, quantity or price */
-    BILZHAAN_PRICED_BLANK = 12,        /* quantity 0 with a price */
+    BILZHAAN_BLANK_REFUSED = 12,       /* quantity 0 with a price, or before a pair that isn't blank */
     BILZHAAN_PRICES_DONT_RISE = 13,
     BILZHAAN_RAMP_REFUSED = 14,
     BILZHAAN_PROPORTION_REFUSED = 15,
@@ -183,6 +186,9 @@ enum {
     /* the coordinator, from a date or its period alone */
     BILZHAAN_DATE_REFUSED = 21         /* no date of 2024 to 2099, no period of 1 to 48, or P outside theirs */
 };
+
+/* The name of 12 in headers older than 1.7.0, where a price alone drew it. */
+#define BILZHAAN_PRICED_BLANK BILZHAAN_BLANK_REFUSED
 
 /* An answer. Beside a refusal, and for accepted calls 1 to 7, words and sum are zero. A look-up's sum is its ten
  * quantities added, tenths of a MW; a total's is over the facilities, and its words 1 to 23 are zero.

@@ -23,7 +23,7 @@ struct bilzhaan_offer {
     int32_t proportion; /* of services 1 to 3: thousandths */
     int32_t ramp_up;    /* of energy: tenths of a MW per minute */
     int32_t ramp_down;
-    struct bilzhaan_pair pairs[BILZHAAN_PAIRS_ENERGY]; /* of services 1 to 4 the first five */
+    struct bilzhaan_pair pairs[BILZHAAN_PAIRS_ENERGY]; /* of services 1 to 4 the first five; blank pairs come last, else 12 */
 };
 
 struct bilzhaan_capability {
@@ -192,7 +192,8 @@ static inline int bilzhaan_is_fresh(const struct bilzhaan_answer *answer)
     return in_force == BILZHAAN_FRESH_STANDING_IN_FORCE || in_force == BILZHAAN_FRESH_VARIATION_IN_FORCE;
 }
 
-/* The offer that a look-up answered, to read or to file changed: facility, service, period and reason are left 0. */
+/* The offer that a look-up answered, to read or to file changed: facility, service, period and reason are left 0. One that a
+ * library older than 1.7.0 accepted may have a blank pair before one that isn't: filed as it is it draws 12. */
 static inline struct bilzhaan_offer bilzhaan_answered_offer(const struct bilzhaan_answer *answer)
 {
     struct bilzhaan_offer offer = {0, 0, 0, 0, 0, 0, 0, {{0, 0}}};
@@ -243,8 +244,8 @@ static inline const char *bilzhaan_number_text(uint32_t number)
     case BILZHAAN_OUT_OF_RANGE:
         return "Reason above 6; a quantity outside 0 to 9,999.9 MW; a price outside its limits (reserve and "
                "regulation from 0.00). Blank pairs are tested too.";
-    case BILZHAAN_PRICED_BLANK:
-        return "A pair of 0.0 MW has a price.";
+    case BILZHAAN_BLANK_REFUSED:
+        return "A pair of 0.0 MW has a price, or stands before one that is not blank.";
     case BILZHAAN_PRICES_DONT_RISE:
         return "Prices of the non-blank pairs do not strictly rise.";
     case BILZHAAN_RAMP_REFUSED:

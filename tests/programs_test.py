@@ -29,14 +29,14 @@ class Vectors(unittest.TestCase):
 
     def test_programs_lists(self):
         names = sorted(n[:-3] for n in os.listdir(VECTORS) if "program" in n and n.endswith(".in"))
-        self.assertEqual(len(names), 10)
+        self.assertEqual(len(names), 11)
         for name in names:
             with self.subTest(name):
                 self.assertEqual(run(OFFER_BOOK, read(VECTORS, name + ".in")), read(VECTORS, name + ".out"))
 
     def test_whole_lists(self):
         for name in ("one_service", "five_services", "every_byte", "k1_calls", "k2_calls", "k3_calls", "k3_every_byte", "k5_calls",
-                     "k5_every_byte"):
+                     "k5_every_byte", "k7_calls"):
             with self.subTest(name):
                 self.assertEqual(run(REPLAY, read(VECTORS, name + ".in")), read(VECTORS, name + ".out"))
 

@@ -10,6 +10,7 @@ long passed, failed;
 long drawn[20], accepted[10], inside_gate[7], past_another_period;
 long taken_back[2][2], taken_back_inside[7], not_taken_back, taken_back_damaged;
 struct revisions revisions;
+struct blanks blanks;
 long of_links[20], accepted_of_links[10], links_inside_gate[7], links_marked;
 long shown[5], at_age[2][AGES], duplicated_later, varied_again, uncovered[2];
 long ramps_below_0, minutes_to_come, minutes_below_0, ages_past_32_bits, duplicated_damaged, ramps_past_9999, of_version_1;
@@ -132,6 +133,14 @@ static void compare_words_after(struct list *l, const struct bilzhaan_answer *a)
 
 /* ---- one call ---- */
 
+/* The cell that an offer is for, or that a look-up answers from. */
+static const int32_t *cell_of_call(const struct list *l, int h)
+{
+    const uint8_t *b = l->bytes;
+    return l->plain + place_of_cell(l->plain[2], l->plain[3], b[BILZHAAN_AT_FACILITY], b[BILZHAAN_AT_SERVICE], h,
+                                    period_of(b) % 336);
+}
+
 static bool offers_nothing(const uint8_t *b)
 {
     for (int i = BILZHAAN_AT_W0; i < BILZHAAN_RECORD_BYTES; i++)
@@ -241,15 +250,131 @@ static void count_revision(const struct list *l, struct revision v, const struct
     revisions.duplicates += a->number == BILZHAAN_DUPLICATE;
 }
 
-/* ---- minutes and ramps ---- */
+/* ---- blanks before filled pairs ---- */
 
-/* The cell that an accepted or a duplicate offer is for, or that a look-up answers from. */
-static const int32_t *cell_of_call(const struct list *l, int h)
+/* Ten pairs, price and quantity in turn. */
+static bool has_gap(const int32_t *pairs)
+{
+    bool is_after_blank = false;
+    for (int i = 0; i < 10; i++) {
+        if (is_after_blank && pairs[2 * i + 1] > 0)
+            return true;
+        is_after_blank |= pairs[2 * i + 1] == 0;
+    }
+    return false;
+}
+
+static bool has_priced_blank(const int32_t *pairs)
+{
+    for (int i = 0; i < 10; i++)
+        if (pairs[2 * i + 1] == 0 && pairs[2 * i] != 0)
+            return true;
+    return false;
+}
+
+static bool falls(const int32_t *pairs)
+{
+    int64_t last = INT64_MIN;
+    for (int i = 0; i < 10; i++) {
+        if (pairs[2 * i + 1] == 0)
+            continue;
+        if (pairs[2 * i] <= last)
+            return true;
+        last = pairs[2 * i];
+    }
+    return false;
+}
+
+/* The same filled pairs in the same order. */
+static bool differ_in_blanks_alone(const int32_t *pairs, const int32_t *others)
+{
+    int i = 0, j = 0;
+    for (;;) {
+        while (i < 10 && pairs[2 * i + 1] == 0)
+            i++;
+        while (j < 10 && others[2 * j + 1] == 0)
+            j++;
+        if (i == 10 || j == 10)
+            return i == 10 && j == 10;
+        if (memcmp(pairs + 2 * i++, others + 2 * j++, 2 * sizeof pairs[0]) != 0)
+            return false;
+    }
+}
+
+/* An offer's pairs, and which held offers with such a blank its call compares it with; the words are those before the call. */
+struct gaps {
+    bool is_offer, in_same, in_closed_up, in_old, in_back_to;
+    int32_t pairs[20];
+};
+
+static bool has_same_rates(const int32_t *cell, const uint8_t *b)
+{
+    return cell[1] == b[BILZHAAN_AT_PROPORTION] * 256 + b[BILZHAAN_AT_PROPORTION + 1]
+        && cell[CELL_RAMPS] == (int64_t)word_at(b, BILZHAAN_AT_RAMP_UP) * 10000 + word_at(b, BILZHAAN_AT_RAMP_DOWN);
+}
+
+static void find_held_gaps(const struct list *l, int64_t now, struct gaps *g)
 {
     const uint8_t *b = l->bytes;
-    return l->plain + place_of_cell(l->plain[2], l->plain[3], b[BILZHAAN_AT_FACILITY], b[BILZHAAN_AT_SERVICE], h,
-                                    period_of(b) % 336);
+    bool varies = b[BILZHAAN_AT_CALL] == BILZHAAN_CALL_VARIATION;
+    int64_t period = varies ? period_of(b) : plain_next_period((uint32_t)now, (uint32_t)(period_of(b) % 336));
+    const int32_t *standing = cell_of_call(l, 0), *variation = cell_of_call(l, 1);
+    bool is_held = standing[0] == 1 && has_gap(standing + 4), is_inside = 30 * period - now < 65;
+    bool is_varied = varies && variation[0] == period + 1;
+    g->in_same = is_held && !varies && memcmp(g->pairs, standing + 4, sizeof g->pairs) == 0;
+    g->in_closed_up = is_held && !varies && differ_in_blanks_alone(g->pairs, standing + 4) && has_same_rates(standing, b);
+    g->in_old = is_inside && (is_varied ? has_gap(variation + 4) : is_held);
+    g->in_back_to = is_inside && is_held && varies && offers_nothing(b);
 }
+
+static struct gaps gaps_of(const struct list *l, int64_t now)
+{
+    struct gaps g = {.is_offer = false};
+    const uint8_t *b = l->bytes;
+    if (!usable_sizes(l) || now < 0 || now > 1000000000 || list_machine_record_number(b, l->length, l->plain[2], l->plain[3]) != 0)
+        return g;
+    g.is_offer = b[BILZHAAN_AT_CALL] == BILZHAAN_CALL_STANDING || b[BILZHAAN_AT_CALL] == BILZHAAN_CALL_VARIATION;
+    if (!g.is_offer)
+        return g;
+    for (int i = 0; i < 20; i++)
+        g.pairs[i] = word_at(b, BILZHAAN_AT_W0 + 4 * i);
+    find_held_gaps(l, now, &g);
+    return g;
+}
+
+static void count_held_gaps(const struct list *l, const struct gaps *g, const struct bilzhaan_answer *a)
+{
+    const uint8_t *b = l->bytes;
+    int32_t kind = l->plain[64 + 32 * (size_t)b[BILZHAAN_AT_FACILITY]];
+    bool by_prices = a->number == BILZHAAN_GATE_CLOSED && kind == BILZHAAN_GENERATION
+        && b[BILZHAAN_AT_REASON] == BILZHAAN_REASON_SYNCHRONISATION;
+    blanks.filed_again += a->number == BILZHAAN_BLANK_REFUSED && g->in_same;
+    blanks.closed_up += a->number == 0 && g->in_closed_up;
+    if (a->number != 0 && !by_prices)
+        return;
+    blanks.old[by_prices] += g->in_old;
+    blanks.back_to[by_prices] += g->in_back_to;
+}
+
+static void count_gaps(const struct list *l, const struct gaps *g, const struct bilzhaan_answer *a)
+{
+    bool has = has_gap(g->pairs), is_priced = has_priced_blank(g->pairs);
+    int last = l->bytes[BILZHAAN_AT_SERVICE] == 0 ? 9 : 4;
+    if (l->is_damaged) {
+        count_held_gaps(l, g, a);
+    } else if (a->number == BILZHAAN_BLANK_REFUSED) {
+        blanks.by_price += !has;
+        blanks.by_place += !is_priced;
+        blanks.falling += !is_priced && falls(g->pairs);
+    } else if (a->number == BILZHAAN_OUT_OF_RANGE) {
+        blanks.out_of_range += has && l->bytes[BILZHAAN_AT_REASON] <= 6;
+    } else if (a->number == 0 && g->pairs[1] > 0) {
+        blanks.last += g->pairs[2 * last + 1] == 0;
+        blanks.none += g->pairs[2 * last + 1] > 0;
+    }
+}
+
+/* ---- minutes and ramps ---- */
 
 static void count_look_up(const struct list *l, const struct bilzhaan_answer *a, int64_t now)
 {
@@ -261,6 +386,7 @@ static void count_look_up(const struct list *l, const struct bilzhaan_answer *a,
         minutes_to_come += age < 0;
         minutes_below_0 += cell[CELL_MINUTE] < 0;
         ages_past_32_bits += age > INT32_MAX;
+        blanks.looked_up += has_gap(cell + 4);
         return;
     }
     shown[a->words[0]]++;
@@ -351,6 +477,7 @@ void compared_call(struct list *l, struct random *r, const uint8_t *bytes, size_
     int64_t now = l->plain[4];
     bool is_take_back = takes_back(l);
     struct revision revision = revision_of(l, now);
+    struct gaps gaps = gaps_of(l, now);
     const int32_t *varied = variation_before(l);
     int32_t before[24] = {0};
     if (varied)
@@ -384,4 +511,6 @@ void compared_call(struct list *l, struct random *r, const uint8_t *bytes, size_
         count_take_back(l, &a, now);
     if (revision.is_one)
         count_revision(l, revision, &a);
+    if (gaps.is_offer)
+        count_gaps(l, &gaps, &a);
 }

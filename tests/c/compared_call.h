@@ -29,6 +29,18 @@ extern struct revisions {
     long past_6;                    /* with 11, by the reason */
     long damaged;                   /* accepted inside it on a damaged book */
 } revisions;
+/* Blanks before a filled pair. Of filed offers on sound books: */
+extern struct blanks {
+    long by_price, by_place; /* 12 by the price of a blank alone, and by its place alone; of the second: */
+    long falling;            /* filled pairs whose prices don't rise */
+    long out_of_range;       /* 11 beside such a blank */
+    long last, none;         /* accepted with blanks after filled pairs, and without a blank */
+    /* and of held offers, on damaged books: */
+    long looked_up;
+    long filed_again;        /* 12 of a standing offer with the held one's pairs */
+    long closed_up;          /* one that differs from the held one in the places of its blanks alone, accepted */
+    long old[2], back_to[2]; /* inside gate closure, as old and as what a take-back leaves: accepted; 17 by prices alone */
+} blanks;
 /* Offers and their minutes. On sound books: look-ups by word 0 (1 to 4), and by age up to 7 minutes, of a standing offer (0) and a
  * variation (1); duplicates of an offer of an earlier minute; variations filed again at a later minute; take-backs to a standing
  * offer that isn't fresh (0) and to one that is (1). On damaged books: look-ups of a ramp below 0, of a minute later than the clock,

@@ -120,6 +120,17 @@ static void damaged_offer(struct list *l, struct random *r, size_t cell, int32_t
     }
 }
 
+/* A sound offer but for blanks that may stand anywhere, as an older book holds it. */
+static void older_offer(struct list *l, struct random *r, size_t cell, int32_t stamp)
+{
+    set_both(l, cell, stamp);
+    for (int i = 0; i < 10; i++) {
+        bool is_blank = one_in(r, 2);
+        set_both(l, cell + 4 + 2 * (size_t)i, is_blank ? 0 : 100 * i + (int32_t)between(r, -40, 40));
+        set_both(l, cell + 5 + 2 * (size_t)i, is_blank ? 0 : (int32_t)between(r, 1, 40));
+    }
+}
+
 /* The other cell's offer, or nearly. */
 static void copied_offer(struct list *l, struct random *r, size_t cell, int32_t stamp, size_t from)
 {
@@ -132,7 +143,7 @@ static void copied_offer(struct list *l, struct random *r, size_t cell, int32_t 
     }
 }
 
-/* Offers with damaged quantities near gate closure, in one of the two cells or in both; then offers and readings. */
+/* Damaged or older offers near gate closure, in one of the two cells or in both; then offers and readings. */
 static void damaged_near_gate(struct list *l, struct random *r, struct scene *scene)
 {
     int64_t now = l->plain[4];
@@ -153,10 +164,11 @@ static void damaged_near_gate(struct list *l, struct random *r, struct scene *sc
         set_both(l, block + 18, (int32_t)period + 1);
     }
     int which = (int)between(r, 0, 3);
+    void (*held_offer)(struct list *, struct random *, size_t, int32_t) = one_in(r, 2) ? older_offer : damaged_offer;
     if (which != 1)
-        damaged_offer(l, r, standing, one_in(r, 8) ? odd_value(r) : 1);
+        held_offer(l, r, standing, one_in(r, 8) ? odd_value(r) : 1);
     if (which == 1)
-        damaged_offer(l, r, variation, (int32_t)period + 1);
+        held_offer(l, r, variation, (int32_t)period + 1);
     if (which >= 2)
         copied_offer(l, r, variation, (int32_t)period + 1, standing);
     for (int i = 0; i < 8 && !l->is_wrong; i++) {
@@ -167,7 +179,18 @@ static void damaged_near_gate(struct list *l, struct random *r, struct scene *sc
     }
 }
 
-/* Standing offers filed again over their own cells, whose minute, and ramps for some, were damaged. */
+/* A blank put before some pair of the cell's, as an older book may hold it; the last pair makes room. */
+static void open_gap(struct list *l, struct random *r, size_t cell, int s)
+{
+    size_t last = s == 0 ? 9 : 4, blank = (size_t)between(r, 0, (int64_t)last - 1);
+    for (size_t i = last; i > blank; i--)
+        for (size_t word = 4; word <= 5; word++)
+            set_both(l, cell + word + 2 * i, l->plain[cell + word + 2 * (i - 1)]);
+    set_both(l, cell + 4 + 2 * blank, 0);
+    set_both(l, cell + 5 + 2 * blank, 0);
+}
+
+/* Standing offers filed again over their own cells, whose minute, and ramps or blanks for some, were damaged. */
 static void damaged_duplicates(struct list *l, struct random *r, struct scene *scene)
 {
     for (int i = 0; i < SCENE_KEYS && usable_sizes(l) && !l->is_wrong; i++) {
@@ -181,8 +204,12 @@ static void damaged_duplicates(struct list *l, struct random *r, struct scene *s
         set_both(l, cell + CELL_MINUTE, odd_minute(r, l->plain[4]));
         if (one_in(r, 4))
             set_both(l, cell + CELL_RAMPS, odd_ramps(r));
-        struct record record = held_again(scene, f, s, slot);
-        compared_call(l, r, record.bytes, sizeof record.bytes);
+        if (one_in(r, 3))
+            open_gap(l, r, cell, s);
+        for (int closes_up = 0; closes_up <= 1 && !l->is_wrong; closes_up++) {
+            struct record record = held_again(scene, f, s, slot, closes_up);
+            compared_call(l, r, record.bytes, sizeof record.bytes);
+        }
     }
 }
 
@@ -315,6 +342,35 @@ static void tried_minutes(void)
     tried("book of version 1", 1, of_version_1);
 }
 
+/* What came of blanks before filled pairs, and of blanks after them. */
+static void print_blanks(void)
+{
+    const struct blanks *v = &blanks;
+    printf("\n12 by a blank's price %ld, by its place %ld, where prices fall as well %ld; 11 beside such a blank %ld; accepted with blanks"
+           " last %ld, without one %ld", v->by_price, v->by_place, v->falling, v->out_of_range, v->last, v->none);
+    printf("; held on damaged books: looked up %ld, filed again %ld, with blanks last %ld; inside gate closure as old, accepted %ld, 17 by"
+           " prices alone %ld, as what a take-back leaves %ld, %ld", v->looked_up, v->filed_again, v->closed_up, v->old[0], v->old[1],
+           v->back_to[0], v->back_to[1]);
+}
+
+static void tried_blanks(void)
+{
+    const struct blanks *v = &blanks;
+    tried("blank with a price", 12, v->by_price);
+    tried("blank before a filled pair", 12, v->by_place);
+    tried("blank before a filled pair where prices fall", 12, v->falling);
+    tried("blank before a filled pair, out of range", 11, v->out_of_range);
+    tried("blanks after filled pairs", 0, v->last);
+    tried("offer without a blank", 0, v->none);
+    tried("held blank before a filled pair looked up", 0, v->looked_up);
+    tried("held blank before a filled pair filed again", 12, v->filed_again);
+    tried("held blank before a filled pair filed with its blanks last", 0, v->closed_up);
+    for (int i = 0; i <= 1; i++) {
+        tried("held blank before a filled pair as old", i ? 17 : 0, v->old[i]);
+        tried("held blank before a filled pair as what a take-back leaves", i ? 17 : 0, v->back_to[i]);
+    }
+}
+
 /* What came of standing offers and the gate. */
 static void print_revisions(void)
 {
@@ -370,6 +426,7 @@ static void print_counts(void)
     printf("\nlook-ups past a variation of another period of the slot: %ld", past_another_period);
     print_minutes();
     print_revisions();
+    print_blanks();
     printf("\nlinks, numbers drawn:");
     for (int i = 0; i < 20; i++)
         if (of_links[i] > 0)
@@ -402,6 +459,7 @@ static void print_counts(void)
     tried("mark that a link may not have", 9, links_marked);
     tried_minutes();
     tried_revisions();
+    tried_blanks();
 }
 
 static double seconds_now(void)

@@ -361,7 +361,8 @@ static void answers(void)
     for (int f = 0; f < 2; f++) {
         r = offer_for(BILZHAAN_CALL_VARIATION, f, BILZHAAN_PRIMARY_RESERVE, 100, 0);
         set_proportion(&r, 300 + f);
-        set_pair(&r, BILZHAAN_PAIRS_OTHER - 1, 7, 30);
+        for (int pair = 0; pair < BILZHAAN_PAIRS_OTHER; pair++)
+            set_pair(&r, pair, 3 + pair, 6);
         EQUAL(number_of(r), BILZHAAN_ACCEPTED);
         set_pair(&r, BILZHAAN_PAIRS_OTHER, 8, 1);
         EQUAL(number_of(r), BILZHAAN_UNUSED_BYTE);
@@ -375,7 +376,11 @@ static void answers(void)
     EQUAL(a.words[BILZHAAN_ANSWER_COUNT], 2);
     EQUAL(a.sum, 60);
 
-    EQUAL(number_of(varied(BILZHAAN_ENERGY, 0, 5, 0)), BILZHAAN_PRICED_BLANK);
+    EQUAL(number_of(varied(BILZHAAN_ENERGY, 0, 5, 0)), BILZHAAN_BLANK_REFUSED);
+    r = varied(BILZHAAN_ENERGY, 0, 0, 0);
+    set_pair(&r, 1, 5, 1);
+    EQUAL(number_of(r), BILZHAAN_BLANK_REFUSED);
+    EQUAL(BILZHAAN_PRICED_BLANK, BILZHAAN_BLANK_REFUSED);
     r = varied(BILZHAAN_ENERGY, 0, 5, 1);
     set_pair(&r, 1, 5, 1);
     EQUAL(number_of(r), BILZHAAN_PRICES_DONT_RISE);

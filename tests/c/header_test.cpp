@@ -26,23 +26,32 @@ int main()
         return 4;
     bilzhaan_offer offer = {};
     offer.period = 100;
-    offer.pairs[9] = bilzhaan_pair{99, 500};
+    offer.pairs[1] = bilzhaan_pair{99, 500};
+    bilzhaan_write_variation(record, &offer);
+    if (bilzhaan_call(words, count, record, sizeof record).number != BILZHAAN_BLANK_REFUSED)
+        return 5;
+    offer.pairs[0] = bilzhaan_pair{98, 0};
+    bilzhaan_write_variation(record, &offer);
+    if (bilzhaan_call(words, count, record, sizeof record).number != BILZHAAN_PRICED_BLANK)
+        return 6;
+    for (int32_t i = 0; i < BILZHAAN_PAIRS_ENERGY; i++)
+        offer.pairs[i] = bilzhaan_pair{90 + i, 50};
     bilzhaan_write_variation(record, &offer);
     if (bilzhaan_call(words, count, record, sizeof record).number != BILZHAAN_ACCEPTED)
-        return 5;
+        return 7;
     bilzhaan_write_look_up(record, 0, BILZHAAN_ENERGY, 100);
     const bilzhaan_answer answer = bilzhaan_call(words, count, record, sizeof record);
     if (!bilzhaan_is_variation(&answer) || !bilzhaan_is_fresh(&answer) || answer.sum != 500)
-        return 6;
-    if (bilzhaan_answered_offer(&answer).pairs[9].price != 99)
-        return 7;
-    if (bilzhaan_version() != BILZHAAN_VERSION || bilzhaan_book_version() != BILZHAAN_BOOK_VERSION)
         return 8;
-    if (bilzhaan_next_period(119, 4) != 4 || bilzhaan_next_period(120, 4) != 340)
+    if (bilzhaan_answered_offer(&answer).pairs[9].price != 99)
         return 9;
+    if (bilzhaan_version() != BILZHAAN_VERSION || bilzhaan_book_version() != BILZHAAN_BOOK_VERSION)
+        return 10;
+    if (bilzhaan_next_period(119, 4) != 4 || bilzhaan_next_period(120, 4) != 340)
+        return 11;
     const bilzhaan_period leap_day = bilzhaan_period_of(2024, 2, 29, 48);
     const bilzhaan_date again = bilzhaan_date_of(leap_day.period);
     if (leap_day.period != 2879 || leap_day.weekday != 3 || again.month != 2 || again.day != 29 || again.period != 48)
-        return 10;
-    return std::strcmp(bilzhaan_number_text(answer.number), "Accepted.") == 0 ? 0 : 11;
+        return 12;
+    return std::strcmp(bilzhaan_number_text(answer.number), "Accepted.") == 0 ? 0 : 13;
 }

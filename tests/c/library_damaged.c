@@ -175,7 +175,7 @@ static void windows_and_limits(void)
     b.words[AT_LIMITS + 1] = INT32_MAX;
     struct record r = energy(BILZHAAN_CALL_VARIATION, 100, 0, 7);
     set_pair(&r, 0, INT32_MIN, 7);
-    set_pair(&r, 9, INT32_MAX, 7);
+    set_pair(&r, 1, INT32_MAX, 7);
     EQUAL(number_of(&b, r), 0);
     b.words[AT_LIMITS + 5] = -1;
     EQUAL(number_of(&b, offer_for(BILZHAAN_CALL_VARIATION, 0, 4, 100, 0)), BILZHAAN_OUT_OF_RANGE);

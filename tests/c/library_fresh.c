@@ -101,7 +101,9 @@ static void refused_filings(void)
     for (int32_t age = 4; age <= 5; age++) {
         at_minute(&b, 1000 + age);
         struct record priced_blank = offered(VARIATION, 0, 101, 0, 0), falling = offered(VARIATION, 0, 101, 0, 80);
+        struct record blank_first = offered(VARIATION, 0, 101, 0, 0);
         set_pair(&priced_blank, 3, 1, 0);
+        set_pair(&blank_first, 1, 4000, 80);
         set_pair(&falling, 1, 3999, 1);
         struct {
             struct record filed;
@@ -109,7 +111,8 @@ static void refused_filings(void)
         } tries[] = {
             {offered(VARIATION, 0, 33, 0, 80), BILZHAAN_PERIOD_REFUSED},
             {offered(VARIATION, 0, 101, 7, 80), BILZHAAN_OUT_OF_RANGE},
-            {priced_blank, BILZHAAN_PRICED_BLANK},
+            {priced_blank, BILZHAAN_BLANK_REFUSED},
+            {blank_first, BILZHAAN_BLANK_REFUSED},
             {falling, BILZHAAN_PRICES_DONT_RISE},
             {with_ramps(offered(VARIATION, 0, 101, 0, 80), 51, 0), BILZHAAN_RAMP_REFUSED},
             {offered(STANDING, 0, 100, 0, 801), BILZHAAN_ABOVE_CAPACITY},

@@ -139,7 +139,7 @@ static void windows(void)
 static void tenth_by_tenth(void)
 {
     static const struct {
-        int32_t pairs[3][2]; /* price, quantity; placed as pairs 1, 4 and 9 */
+        int32_t pairs[3][2]; /* price, quantity */
         uint32_t number;
     } tries[] = {
         {{{4000, 500}, {5000, 200}}, 0},
@@ -159,9 +159,8 @@ static void tenth_by_tenth(void)
         open_usual(&b, 56);
         EQUAL(number_of(&b, stood(4, 500, 200)), 0);
         struct record r = offer_for(BILZHAAN_CALL_VARIATION, 0, 0, 4, BILZHAAN_REASON_SYNCHRONISATION);
-        static const int places[3] = {1, 4, 9};
         for (int k = 0; k < 3; k++)
-            set_pair(&r, places[k], tries[i].pairs[k][0], tries[i].pairs[k][1]);
+            set_pair(&r, k, tries[i].pairs[k][0], tries[i].pairs[k][1]);
         EQUAL(number_of(&b, r), tries[i].number);
     }
     /* old is the offer in force: here the variation before, of one tenth */
@@ -198,7 +197,7 @@ static void in_force(void)
     for (int f = 0; f < 2; f++) {
         struct record r = offer_for(BILZHAAN_CALL_STANDING, f, BILZHAAN_CONTINGENCY_RESERVE, 100, 0);
         set_proportion(&r, 1);
-        set_pair(&r, 4, 100, 40 + f);
+        set_pair(&r, 0, 100, 40 + f);
         EQUAL(number_of(&b, r), 0);
         a = call(&b, total_of(BILZHAAN_CONTINGENCY_RESERVE, 100));
         EQUAL(a.words[0], f + 1);

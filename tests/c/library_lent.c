@@ -71,7 +71,7 @@ static void readers(void)
     struct book b = usual_book(0);
     for (int32_t slot = 1; slot < BILZHAAN_WEEK_SLOTS; slot++) {
         struct record r = offer_for(BILZHAAN_CALL_STANDING, 0, 0, slot, 0);
-        set_pair(&r, 3, 5, 100 + slot);
+        set_pair(&r, 0, 5, 100 + slot);
         EQUAL(number_of(&b, r), 0);
     }
     allow_writes(b.words, b.count * sizeof b.words[0], false);

@@ -176,13 +176,15 @@ static void ranges(void)
     for (int s = 0; s < 5; s++) {
         int32_t low = s == 0 ? usual_limits[0] : 0, high = usual_limits[s + 1];
         for (int pair = 0; pair < (s == 0 ? 10 : 5); pair++) {
-            const int32_t tries[][3] = {
-                {high, 99999, 0}, {low, 1, 0}, {high + 1, 1, 11}, {low - 1, 1, 11}, {0, 100000, 11}, {0, -1, 11},
-                {0, INT32_MIN, 11}, {0, INT32_MAX, 11}, {INT32_MAX, 1, 11}, {INT32_MIN, 1, 11},
-                {high + 1, 0, 11}, {low - 1, 0, 11}, {high, 0, high == 0 ? 0 : 12}, {low, 0, low == 0 ? 0 : 12},
+            const int32_t tries[][3] = { /* after as many pairs of one tenth, from the lowest price on */
+                {high, 99999 - pair, 0}, {high, 99999, pair == 0 ? 0 : 16}, {low + pair, 1, 0}, {high + 1, 1, 11},
+                {low - 1, 1, 11}, {0, 100000, 11}, {0, -1, 11}, {0, INT32_MIN, 11}, {0, INT32_MAX, 11}, {INT32_MAX, 1, 11},
+                {INT32_MIN, 1, 11}, {high + 1, 0, 11}, {low - 1, 0, 11}, {high, 0, 12}, {low, 0, low == 0 ? 0 : 12},
             };
             for (size_t i = 0; i < sizeof tries / sizeof tries[0]; i++) {
                 struct record r = offer_for(BILZHAAN_CALL_VARIATION, 0, s, 100, 0);
+                for (int before = 0; before < pair; before++)
+                    set_pair(&r, before, low + before, 1);
                 set_pair(&r, pair, tries[i][0], tries[i][1]);
                 if (s >= 1 && s <= 3)
                     set_proportion(&r, 1);
@@ -202,24 +204,24 @@ static void blanks_and_prices(void)
     struct book b = usual_book(0);
     struct record r = energy(BILZHAAN_CALL_VARIATION, 100);
     set_pair(&r, 2, 1, 0);
-    EQUAL(number_of(&b, r), BILZHAAN_PRICED_BLANK);
+    EQUAL(number_of(&b, r), BILZHAAN_BLANK_REFUSED);
     set_pair(&r, 2, -1, 0);
-    EQUAL(number_of(&b, r), BILZHAAN_PRICED_BLANK);
-    /* blanks may stand anywhere, and the price 0 of one is no fall */
-    for (int first = 0; first < 10; first++)
-        for (int second = 0; second < 10; second++) {
-            r = offer_for(BILZHAAN_CALL_VARIATION, 0, 0, 100, 0);
-            if (first == second)
-                continue;
-            set_pair(&r, first, 4000, 5);
-            set_pair(&r, second, 5000, 7);
-            EQUAL(number_of(&b, r), first < second ? 0 : BILZHAAN_PRICES_DONT_RISE);
-            set_pair(&r, second, 4000, 7);
-            EQUAL(number_of(&b, r), BILZHAAN_PRICES_DONT_RISE);
-            set_pair(&r, first, -4000, 5);
-            set_pair(&r, second, -5000, 7);
-            EQUAL(number_of(&b, r), first < second ? BILZHAAN_PRICES_DONT_RISE : 0);
-        }
+    EQUAL(number_of(&b, r), BILZHAAN_BLANK_REFUSED);
+    /* each pair's price is above the one before; the price 0 of the blanks after them is no fall */
+    for (int filled = 2; filled <= 10; filled++)
+        for (int pair = 1; pair < filled; pair++)
+            for (int32_t lowest = -4000; lowest <= 4000; lowest += 4000) {
+                r = offer_for(BILZHAAN_CALL_VARIATION, 0, 0, 100, 0);
+                for (int i = 0; i < filled; i++)
+                    set_pair(&r, i, lowest + 500 * i, 5);
+                EQUAL(number_of(&b, r), 0);
+                set_pair(&r, pair, lowest + 500 * (pair - 1) + 1, 7);
+                EQUAL(number_of(&b, r), 0);
+                set_pair(&r, pair, lowest + 500 * (pair - 1), 7);
+                EQUAL(number_of(&b, r), BILZHAAN_PRICES_DONT_RISE);
+                set_pair(&r, pair, lowest - 500, 7);
+                EQUAL(number_of(&b, r), BILZHAAN_PRICES_DONT_RISE);
+            }
     EQUAL(number_of(&b, offer_for(BILZHAAN_CALL_STANDING, 0, 0, 101, 0)), 0); /* an all-blank standing offer is an offer */
     struct bilzhaan_answer a = call(&b, look_up_of(0, 0, 101));
     EQUAL(a.number, 0);
@@ -253,8 +255,8 @@ static void ramps_proportions_and_totals(void)
         int32_t highest = s == 0 ? 800 : usual_generation[2 + s];
         for (int32_t total = highest - 1; total <= highest + 1; total++) {
             struct record r = offer_for(BILZHAAN_CALL_VARIATION, 0, s, 100, 0);
-            set_pair(&r, 1, 10, total - 30);
-            set_pair(&r, 4, 11, 30);
+            set_pair(&r, 0, 10, total - 30);
+            set_pair(&r, 1, 11, 30);
             if (s >= 1 && s <= 3)
                 set_proportion(&r, 1);
             EQUAL(number_of(&b, r), total <= highest ? 0 : BILZHAAN_ABOVE_CAPACITY);
@@ -335,10 +337,12 @@ static void order(void)
     EQUAL(number_of(&b, r), BILZHAAN_OUT_OF_RANGE);
     for (int pair = 0; pair < 10; pair++)
         set_pair(&r, pair, 5, pair == 3 ? 0 : 20);
-    EQUAL(number_of(&b, r), BILZHAAN_PRICED_BLANK);
+    EQUAL(number_of(&b, r), BILZHAAN_BLANK_REFUSED);
     set_pair(&r, 3, 0, 0);
+    EQUAL(number_of(&b, r), BILZHAAN_BLANK_REFUSED);
+    set_pair(&r, 3, 5, 20);
     EQUAL(number_of(&b, r), BILZHAAN_PRICES_DONT_RISE);
-    for (int pair = 4; pair < 10; pair++)
+    for (int pair = 3; pair < 10; pair++)
         set_pair(&r, pair, 0, 0);
     set_pair(&r, 0, 3, 11);
     set_pair(&r, 1, 4, 10);

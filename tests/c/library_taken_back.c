@@ -53,15 +53,16 @@ static void each_service(void)
     EQUAL(call(&b, total_of(BILZHAAN_PRIMARY_RESERVE, 100)).sum, 100);
 }
 
-/* A tenth of a MW in any pair is a variation, and nothing of it stays. */
+/* A tenth of a MW is a variation, and nothing of it stays; after blanks it is refused, and takes nothing back. */
 static void least_of_all(void)
 {
     struct book b = usual_book(0);
     for (int pair = 0; pair < 10; pair++) {
         struct record r = taken_back(0);
-        set_pair(&r, pair, 5, 1);
-        EQUAL(number_of(&b, r), 0);
-        LOOK_UP_GIVES(&b, 0, 0, 100, 0, BILZHAAN_FRESH_VARIATION_IN_FORCE, 1);
+        EQUAL(number_of(&b, varied(5, 1)), 0);
+        set_pair(&r, pair, 5, 2);
+        EQUAL(number_of(&b, r), pair == 0 ? 0 : BILZHAAN_BLANK_REFUSED);
+        LOOK_UP_GIVES(&b, 0, 0, 100, 0, BILZHAAN_FRESH_VARIATION_IN_FORCE, pair == 0 ? 2 : 1);
         EQUAL(number_of(&b, taken_back(0)), 0);
         CHECK(is_emptied(&b, 0, 0, 100));
     }
@@ -97,7 +98,7 @@ static void refused(void)
     EQUAL(number_of(&b, energy(BILZHAAN_CALL_VARIATION, 3, 0, 0, 0)), BILZHAAN_PERIOD_REFUSED);
     EQUAL(number_of(&b, energy(BILZHAAN_CALL_VARIATION, 336, 0, 0, 0)), BILZHAAN_PERIOD_REFUSED);
     EQUAL(number_of(&b, taken_back(7)), BILZHAAN_OUT_OF_RANGE);
-    EQUAL(number_of(&b, varied(1, 0)), BILZHAAN_PRICED_BLANK);
+    EQUAL(number_of(&b, varied(1, 0)), BILZHAAN_BLANK_REFUSED);
     struct record r = taken_back(0);
     set_ramps(&r, 51, 0);
     EQUAL(number_of(&b, r), BILZHAAN_RAMP_REFUSED);
@@ -166,7 +167,7 @@ static void prices(void)
     EQUAL(number_of(&b, energy(BILZHAAN_CALL_VARIATION, 100, 1, 3999, 1)), BILZHAAN_GATE_CLOSED);
     struct record r = energy(BILZHAAN_CALL_VARIATION, 100, 1, 4000, 1);
     EQUAL(number_of(&b, r), 0);
-    set_pair(&r, 9, 9000, 600);
+    set_pair(&r, 1, 9000, 600);
     EQUAL(number_of(&b, r), 0);
     EQUAL(number_of(&b, taken_back(1)), BILZHAAN_GATE_CLOSED); /* the second tenth: 90.00 varied, 40.00 standing */
     /* with no standing offer a take-back leaves no price to keep */

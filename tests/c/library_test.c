@@ -1,6 +1,6 @@
 /* Tests of the library from C by hand: records, the opening, every refusal from 1 to 20, gate closure, a slot's
- * next period, variations taken back, reasons of standing offers, import links, fresh offers, damaged books, what the
- * header says of lent words, document 01's cases and its worked run. Prints 'N passed, M failed'. */
+ * next period, variations taken back, reasons of standing offers, import links, fresh offers, blank pairs, damaged books,
+ * what the header says of lent words, document 01's cases and its worked run. Prints 'N passed, M failed'. */
 #include "library_test.h"
 
 #include <inttypes.h>
@@ -110,6 +110,7 @@ int main(void)
     test_standing_reasons();
     test_links();
     test_fresh();
+    test_blanks();
     test_damaged();
     test_lent();
     EQUAL(numbers_drawn, 0xFFFFF); /* 0 to 19; 20 is the opening's and the record test's */

@@ -13,6 +13,7 @@ void test_taken_back(void);       /* library_taken_back.c */
 void test_standing_reasons(void); /* library_standing_reasons.c */
 void test_links(void);            /* library_links.c */
 void test_fresh(void);            /* library_fresh.c */
+void test_blanks(void);           /* library_blanks.c */
 void test_damaged(void);          /* library_damaged.c */
 void test_lent(void);             /* library_lent.c */
 

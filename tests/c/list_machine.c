@@ -441,13 +441,17 @@ static bool refused_11(const machine *m, rec r)
     return false;
 }
 
-/* 12 "blank pair with a price" */
+/* 12 "blank pair with a price"; it "also applies where a blank pair stands before a non-blank one" */
 static bool refused_12(const machine *m, rec r)
 {
     (void)m;
-    for (int i = 0; is_offer(r) && i < 10; i++)
+    for (int i = 0; is_offer(r) && i < 10; i++) {
         if (quantity_of(r, i) == 0 && price_of(r, i) != 0)
             return true;
+        for (int j = i + 1; j < 10; j++)
+            if (quantity_of(r, i) == 0 && quantity_of(r, j) != 0)
+                return true;
+    }
     return false;
 }
 

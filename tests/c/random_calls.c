@@ -206,11 +206,13 @@ static void draft_from(struct random *r, const int32_t *held, int s, int reason,
     }
 }
 
+/* Blanks come last; of some drafts they stand anywhere. */
 static void place_draft(struct random *r, const struct draft *d, int s, struct record *record)
 {
     int left = s == 0 ? 10 : 5, pending = d->count;
+    bool is_scattered = one_in(r, 8);
     for (int pair = 0; left > 0; pair++, left--) {
-        if (pending == 0 || (pending < left && one_in(r, 3)))
+        if (pending == 0 || (is_scattered && pending < left && one_in(r, 3)))
             continue; /* blank */
         int i = d->count - pending--;
         int64_t quantity = d->quantities[i];
@@ -238,18 +240,33 @@ static void rates(struct random *r, const struct scene *scene, int f, int s, str
     }
 }
 
+static bool is_blank(const struct record *record, int pair)
+{
+    static const uint8_t none[4];
+    return memcmp(record->bytes + BILZHAAN_AT_W0 + 8 * pair + 4, none, sizeof none) == 0;
+}
+
+/* A filled pair or the first blank one; for some, any. */
+static int some_pair(struct random *r, int s, const struct record *record)
+{
+    int last = s == 0 ? 9 : 4, first_blank = 0;
+    while (first_blank < last && !is_blank(record, first_blank))
+        first_blank++;
+    return (int)between(r, 0, one_in(r, 4) ? last : first_blank);
+}
+
 /* One step past an edge of refusals 11 to 16. */
 static void fault(struct random *r, const struct scene *scene, int f, int s, struct record *record)
 {
     const int32_t *block = block_of(scene, f);
     int64_t low, high;
     limits_of(scene, s, &low, &high);
-    int pair = (int)between(r, 0, s == 0 ? 9 : 4);
+    int pair = some_pair(r, s, record);
     switch (random_bits(r) % 10) {
     case 0: set_pair(record, pair, (int32_t)(high + 1), 1); break;
     case 1: set_pair(record, pair, (int32_t)(low - 1), (int32_t)between(r, 0, 1)); break;
     case 2: set_pair(record, pair, 0, one_in(r, 2) ? -1 : 100000); break;
-    case 3: set_pair(record, pair, (int32_t)between(r, low, high), 0); break;
+    case 3: set_pair(record, pair, one_in(r, 2) ? 0 : (int32_t)between(r, low, high), 0); break;
     case 4: set_pair(record, pair, (int32_t)between(r, low, high), 1); break;
     case 5: set_w(record, 2 * pair + (int)between(r, 0, 1), any_word(r)); break;
     case 6: set_pair(record, pair, (int32_t)high, 99999); break;
@@ -275,10 +292,26 @@ static void copy_cell(const int32_t *cell, int s, struct record *record)
         set_w(record, i, cell[4 + i]);
 }
 
-struct record held_again(const struct scene *scene, int f, int s, int64_t slot)
+/* The filled pairs first, where a held offer's are not. */
+static void close_up(int s, struct record *record)
+{
+    int filled = 0;
+    for (int i = 0; i < (s == 0 ? 10 : 5); i++) {
+        uint8_t pair[8];
+        if (is_blank(record, i))
+            continue;
+        memcpy(pair, record->bytes + BILZHAAN_AT_W0 + 8 * i, sizeof pair);
+        set_pair(record, i, 0, 0);
+        memcpy(record->bytes + BILZHAAN_AT_W0 + 8 * filled++, pair, sizeof pair);
+    }
+}
+
+struct record held_again(const struct scene *scene, int f, int s, int64_t slot, bool is_closed_up)
 {
     struct record record = offer_for(BILZHAAN_CALL_STANDING, f, s, (int32_t)slot, 0);
     copy_cell(cell_of(scene, f, s, 0, slot), s, &record);
+    if (is_closed_up)
+        close_up(s, &record);
     return record;
 }
 
@@ -323,6 +356,8 @@ static struct record offer_at(struct random *r, struct scene *scene, int which, 
         held = cell_of(scene, f, s, 0, period);
     if (held && one_in(r, varies ? 8 : 3)) {
         copy_cell(held, s, &record);
+        if (one_in(r, 2))
+            close_up(s, &record);
     } else {
         struct draft d;
         if (held && !one_in(r, 3))

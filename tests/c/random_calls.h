@@ -44,8 +44,8 @@ size_t random_call(struct random *r, struct scene *scene, uint8_t bytes[LONGEST_
 int32_t random_kind(struct random *r, int32_t services);
 void clear_marks(int32_t w[17]);
 
-/* The standing offer that the slot's cell holds, filed again. */
-struct record held_again(const struct scene *scene, int f, int s, int64_t slot);
+/* The standing offer that the slot's cell holds, filed again as it is or with its blanks last. */
+struct record held_again(const struct scene *scene, int f, int s, int64_t slot, bool is_closed_up);
 
 /* A variation of this facility and service for this period, mostly near to the offer that stands, or of blanks alone. */
 struct record random_variation(struct random *r, struct scene *scene, int f, int s, int64_t period);

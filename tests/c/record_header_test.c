@@ -231,6 +231,34 @@ static void answered(void)
     EQUAL(bilzhaan_answered_offer(&a).proportion, 65535);
 }
 
+/* A held offer with a blank before its second pair, as libraries older than 1.7.0 took it: it draws 12 until the blank is last. */
+static void answered_with_a_blank(void)
+{
+    struct bilzhaan_offer o = {.period = 100, .pairs = {{1, 5}, {2, 6}}};
+    open_with_a_load();
+    bilzhaan_write_standing(written, &o);
+    EQUAL(filed(), BILZHAAN_ACCEPTED);
+    int32_t *pairs = words + 64 + 32 * 2 + 24 * 100 + 4;
+    for (int i = 2; i < 4; i++) {
+        pairs[i + 2] = pairs[i];
+        pairs[i] = 0;
+    }
+    struct bilzhaan_answer a = look_up(0, BILZHAAN_ENERGY);
+    EQUAL(a.sum, 11);
+    o = bilzhaan_answered_offer(&a);
+    o.period = 100;
+    EQUAL(o.pairs[1].quantity, 0);
+    EQUAL(o.pairs[2].quantity, 6);
+    bilzhaan_write_standing(written, &o);
+    EQUAL(filed(), BILZHAAN_BLANK_REFUSED);
+    const struct bilzhaan_pair blank = o.pairs[1];
+    o.pairs[1] = o.pairs[2];
+    o.pairs[2] = blank;
+    bilzhaan_write_standing(written, &o);
+    EQUAL(filed(), BILZHAAN_ACCEPTED);
+    EQUAL(filed(), BILZHAAN_DUPLICATE);
+}
+
 /* A set trips inside gate closure: its standing offer, field by name, without the reason and with it. */
 static void standing_in_an_outage(void)
 {
@@ -330,6 +358,7 @@ int main(int count, char **arguments)
     offers();
     out_of_range();
     answered();
+    answered_with_a_blank();
     standing_in_an_outage();
     taken_back();
     variation_and_fresh();

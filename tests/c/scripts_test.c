@@ -91,9 +91,9 @@ static void test_spoilt(const char *file, const char *text)
 /* Lines that must fail, each after an opening that is right. */
 static void test_lines(void)
 {
-    static const char opening[] = "open 6 1 1 -5 5 5 5 5 5 0 = 0\n";
+    static const char opening[] = "open 7 1 1 -5 5 5 5 5 5 0 = 0\n";
     static const char *const wrong[] = {
-        "opens 6 1 1 -5 5 5 5 5 5 0 = 0",
+        "opens 7 1 1 -5 5 5 5 5 5 0 = 0",
         "explain 00 = 2 0 0",
         "words",
         "words =0",
@@ -101,16 +101,16 @@ static void test_lines(void)
         "words  = 1",
         " words = 1",
         "words 1 = 1",
-        "open 7 1 1 -5 5 5 5 5 5 0 = 0",
-        "open 4 1 1 -5 5 5 5 5 5 0 = 0",
-        "open 6 1 1 -5 5 5 5 5 5 = 0",
-        "open 6 1 1 -5 5 5 5 5 5 +1 = 0",
-        "open 6 1 1 -5 5 5 5 5 5 00 = 0",
-        "open 6 1 1 -5 5 5 5 5 2147483648 0 = 20",
-        "open 6 1 1 -5 5 5 5 5 5 -16225 = 20",
-        "open 6 0 1 -5 5 5 5 5 5 -1 = 20",
-        "open 6 1 1 -5 5 5 5 5 5 0 = 20",
-        "open 6 0 1 -5 5 5 5 5 5 0 = 0",
+        "open 8 1 1 -5 5 5 5 5 5 0 = 0",
+        "open 5 1 1 -5 5 5 5 5 5 0 = 0",
+        "open 7 1 1 -5 5 5 5 5 5 = 0",
+        "open 7 1 1 -5 5 5 5 5 5 +1 = 0",
+        "open 7 1 1 -5 5 5 5 5 5 00 = 0",
+        "open 7 1 1 -5 5 5 5 5 2147483648 0 = 20",
+        "open 7 1 1 -5 5 5 5 5 5 -16225 = 20",
+        "open 7 0 1 -5 5 5 5 5 5 -1 = 20",
+        "open 7 1 1 -5 5 5 5 5 5 0 = 20",
+        "open 7 0 1 -5 5 5 5 5 5 0 = 0",
         "write 0 =",
         "write 16224 0 =",
         "write -1 0 =",
@@ -158,9 +158,9 @@ static void test_lines(void)
         "period 47 = 0 2024 1 1 48 0",
         "period -1 = 21 0 0 0 0 0",
         "write 0 1 =",
-        "open 5 0 1 -5 5 5 5 5 5 0 = 20",
         "open 6 0 1 -5 5 5 5 5 5 0 = 20",
-        "open 6 1 1 -5 5 5 5 5 5 -16224 = 20",
+        "open 7 0 1 -5 5 5 5 5 5 0 = 20",
+        "open 7 1 1 -5 5 5 5 5 5 -16224 = 20",
         "# a comment",
     };
     char text[512];

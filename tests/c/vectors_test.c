@@ -157,9 +157,11 @@ int main(int argc, char **argv)
         return 2;
     }
     static const char *const lists[] = {"one_service", "five_services", "every_byte", "k1_calls",
-                                        "k2_calls", "k3_calls", "k3_every_byte", "k5_calls", "k5_every_byte"};
+                                        "k2_calls", "k3_calls", "k3_every_byte", "k5_calls", "k5_every_byte",
+                                        "k7_calls"};
     static const char *const programs[] = {"program_31", "program_32", "program_33", "program_34", "program_35",
-                                           "program_36", "k1_program", "k2_program", "k3_program", "k5_program"};
+                                           "program_36", "k1_program", "k2_program", "k3_program", "k5_program",
+                                           "k7_program"};
     for (size_t i = 0; i < sizeof lists / sizeof lists[0]; i++)
         replay_lists(argv[1], lists[i]);
     for (size_t i = 0; i < sizeof programs / sizeof programs[0]; i++)

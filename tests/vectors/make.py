@@ -14,13 +14,13 @@ import sys
 HERE = os.path.dirname(os.path.abspath(__file__))
 sys.path.insert(0, HERE)
 
-from lists import (damaged_books, dates, filing_edges, fresh_offers, largest_book, links, next_periods, no_kind, openings,  # noqa: E402
-                   proportions, record_tests, sound_books, standing_reasons, taken_back, unusable_books)
+from lists import (blanks_last, damaged_books, dates, filing_edges, fresh_offers, largest_book, links, next_periods, no_kind,  # noqa: E402
+                   openings, proportions, record_tests, sound_books, standing_reasons, taken_back, unusable_books)
 from lists.form import Script  # noqa: E402
 
 FILES = {module.__name__.split('.')[-1]: module for module in
          (openings, unusable_books, record_tests, no_kind, proportions, filing_edges, sound_books, taken_back, links, fresh_offers,
-          next_periods, standing_reasons, dates, damaged_books, largest_book)}
+          next_periods, standing_reasons, blanks_last, dates, damaged_books, largest_book)}
 
 
 def script_of(module):

@@ -158,16 +158,16 @@ def reason_byte(t):
 
 
 def prices_at_the_limits(t):
-    """Prices at each service's lowest and highest and one past, in the first and the last pair; limits are the opening's."""
+    """Prices at each service's lowest and highest and one past, in the first and the last pair, where the lowest is no rise; limits are the opening's."""
     t.open(1, 5, (-7, 20, 21, 22, 23, 24))
     t.call(capability(0, LARGE))
     for s in range(5):
         lowest, highest = (-7 if s == 0 else 0), 20 + s
         more = {'proportion': 1} if 1 <= s <= 3 else {}
-        last = 9 if s == 0 else 4
+        before = [(lowest + i, 1) for i in range(9 if s == 0 else 4)]
         for i, (price, number) in enumerate(((lowest, 0), (highest, 0), (lowest - 1, 11), (highest + 1, 11), (LEAST, 11), (MOST, 11))):
             t.call(standing(0, s, 60 + i, [(price, 1)], **more), number)
-            t.call(variation(0, s, 80 + i, {last: (price, 1)}, **more), number)
+            t.call(variation(0, s, 80 + i, before + [(price, 1)], **more), 13 if price == lowest else number)
     t.words()
 
 
@@ -191,27 +191,28 @@ def quantities_at_the_edge(t):
     t.call(capability(0, LARGE))
     for s, pairs in ((0, 10), (1, 5), (4, 5)):
         more = {'proportion': 1} if s == 1 else {}
-        for place in (0, pairs - 1):
-            t.call(variation(0, s, 60, {place: (5, 99999)}, **more))
-            t.call(variation(0, s, 61, {place: (5, 100000)}, **more), 11)
-            t.call(variation(0, s, 61, {place: (5, -1)}, **more), 11)
-            t.call(variation(0, s, 61, {place: (5, 0)}, **more), 12)
-            t.call(variation(0, s, 61, {place: (500000, 0)}, **more), 11)
+        for before in ([], [(i - pairs if s == 0 else i, 1) for i in range(pairs - 1)]):
+            t.call(variation(0, s, 60, before + [(5, 99999 - len(before))], **more))
+            t.call(variation(0, s, 61, before + [(5, 99999)], **more), 16 if before else 0)
+            t.call(variation(0, s, 61, before + [(5, 100000)], **more), 11)
+            t.call(variation(0, s, 61, before + [(5, -1)], **more), 11)
+            t.call(variation(0, s, 61, before + [(5, 0)], **more), 12)
+            t.call(variation(0, s, 61, before + [(500000, 0)], **more), 11)
         t.call(variation(0, s, 61, [(5, LEAST)], **more), 11)
         t.call(variation(0, s, 61, [(5, MOST)], **more), 11)
     t.words()
 
 
 def prices_rise(t):
-    """Rising, equal and falling prices with blanks between them, at the start and at the end."""
+    """Rising, equal and falling prices, alone and with blanks after them; with a blank before or between them 12, whether they rise or not."""
     t.open(1, 5)
     t.call(capability(0, LARGE))
     slot = 60
-    for pairs, number in (([(-2, 1), (-1, 1), (0, 1), (1, 1)], 0), ([(1, 1), (1, 1)], 13), ([(2, 1), (1, 1)], 13), ([(1, 1), None, (1, 1)], 13),
-                          ([(1, 1), None, None, (2, 1)], 0), ([None, (5, 1), None, (4, 1)], 13), ({0: (5, 1), 9: (4, 1)}, 13), ({0: (5, 1), 9: (5, 1)}, 13),
-                          ({0: (5, 1), 9: (6, 1)}, 0), ({8: (5, 1), 9: (5, 1)}, 13), ({8: (5, 1), 9: (6, 1)}, 0), ([(100, 1), None], 0), ([(-1, 5), None, (1, 5)], 0),
-                          ([(-5, 1), None, (-6, 1)], 13), ([(i, 1) for i in range(10)], 0), ([(9 - i, 1) for i in range(10)], 13),
-                          ([(i if i < 9 else 8, 1) for i in range(10)], 13)):
+    for pairs, number in (([(-2, 1), (-1, 1), (0, 1), (1, 1)], 0), ([(1, 1), (1, 1)], 13), ([(2, 1), (1, 1)], 13), ([(1, 1), None, (1, 1)], 12),
+                          ([(1, 1), None, None, (2, 1)], 12), ([None, (5, 1), None, (4, 1)], 12), ({0: (5, 1), 9: (4, 1)}, 12), ({0: (5, 1), 9: (5, 1)}, 12),
+                          ({0: (5, 1), 9: (6, 1)}, 12), ({8: (5, 1), 9: (5, 1)}, 12), ({8: (5, 1), 9: (6, 1)}, 12), ([(100, 1), None], 0), ([(-1, 5), None, (1, 5)], 12),
+                          ([(-5, 1), None, (-6, 1)], 12), ([(-5, 1), (-6, 1)], 13), ([(-6, 1), (-5, 1), None], 0), ([(0, 1), (0, 1), None], 13), ([(0, 1), (-1, 1)], 13),
+                          ([(i, 1) for i in range(10)], 0), ([(9 - i, 1) for i in range(10)], 13), ([(i if i < 9 else 8, 1) for i in range(10)], 13)):
         both(t, 0, 0, slot, pairs, number)
         slot += 1
     t.call(look_up(0, 0, 60), 0, 4, 4)
@@ -239,7 +240,7 @@ def totals_at_the_maxima(t):
         t.call(capability(0, with_words(GENERATION, {1: one, 2: two})))
         most = min(one, two)
         for pairs, number in (([(1, most)], 0), ([(1, most + 1)], 16), ([(1, most // 2), (2, most - most // 2 + 1)], 16)):
-            both(t, 0, 0, slot, [p if p[1] else None for p in pairs], number)
+            both(t, 0, 0, slot, [p for p in pairs if p[1]], number)
             slot += 1
     t.call(capability(0, GENERATION))
     t.call(capability(1, LOAD))
@@ -260,7 +261,7 @@ def totals_at_the_maxima(t):
 
 def energy_offer_mended(t):
     """An energy offer with everything wrong, mended one thing at a time: the numbers rise from 2 to 0, standing offer and variation."""
-    worst, fallen, high, good = [(450001, 801), (7, 0), (5, 4)], [(6, 801), None, (5, 4)], [(4, 801), None, (5, 4)], [(4, 796), None, (5, 4)]
+    worst, apart, fallen, high, good = [(450001, 801), (7, 0), (5, 4)], [(6, 801), None, (5, 4)], [(6, 801), (5, 4)], [(4, 801), (5, 4)], [(4, 796), (5, 4)]
     for offer in (standing, variation):
         t.open(1, 1)
         t.call(clock(30 * 60 - 64))
@@ -277,6 +278,7 @@ def energy_offer_mended(t):
         t.call(offer(0, 0, 60, [(4, 801), (7, 0), (5, 4)], ramps=(51, 0), reason=7), 11)
         t.call(offer(0, 0, 60, worst, ramps=(51, 0)), 11)
         t.call(offer(0, 0, 60, [(6, 801), (7, 0), (5, 4)], ramps=(51, 0)), 12)
+        t.call(offer(0, 0, 60, apart, ramps=(51, 0)), 12)
         t.call(offer(0, 0, 60, fallen, ramps=(51, 0)), 13)
         t.call(offer(0, 0, 60, high, ramps=(51, 0)), 14)
         t.call(offer(0, 0, 60, high, ramps=(50, 41)), 14)
@@ -294,7 +296,7 @@ def energy_offer_mended(t):
 
 
 def duplicates(t):
-    """A standing offer equal to the held one but for one field is accepted; equal in all it draws 18; blanks elsewhere make it another."""
+    """A standing offer equal to the held one but for one field is accepted; equal in all it draws 18; with a blank before one of its pairs 12."""
     t.open(2, 5)
     for f in (0, 1):
         t.call(capability(f, GENERATION))
@@ -302,12 +304,14 @@ def duplicates(t):
     t.call(first)
     t.call(first, 18)
     for other in (standing(0, 0, 60, [(4, 5), (6, 8)], ramps=(1, 2)), standing(0, 0, 60, [(4, 5), (7, 7)], ramps=(1, 2)), standing(0, 0, 60, [(3, 5), (6, 7)], ramps=(1, 2)),
-                  standing(0, 0, 60, [(4, 5), None, (6, 7)], ramps=(1, 2)), standing(0, 0, 60, [None, (4, 5), (6, 7)], ramps=(1, 2)),
                   standing(0, 0, 60, [(4, 5), (6, 7)], ramps=(0, 2)), standing(0, 0, 60, [(4, 5), (6, 7)], ramps=(1, 1)), standing(0, 0, 60, [(4, 5)], ramps=(1, 2)),
-                  standing(0, 0, 60, {0: (4, 5), 9: (6, 7)}, ramps=(1, 2)), standing(0, 0, 60)):
+                  standing(0, 0, 60, [(4, 5), (6, 7), (7, 1)], ramps=(1, 2)), standing(0, 0, 60)):
         t.call(other)
         t.call(other, 18)
         t.call(first)
+        t.call(first, 18)
+    for pairs in ([(4, 5), None, (6, 7)], [None, (4, 5), (6, 7)], {0: (4, 5), 9: (6, 7)}):
+        t.call(standing(0, 0, 60, pairs, ramps=(1, 2)), 12)
         t.call(first, 18)
     t.call(standing(0, 0, 61, [(4, 5), (6, 7)], ramps=(1, 2)))
     t.call(standing(1, 0, 60, [(4, 5), (6, 7)], ramps=(1, 2)))

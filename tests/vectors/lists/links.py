@@ -182,7 +182,7 @@ def both_maxima_of_a_link(t):
 
 def link_offer_mended(t):
     """A link's energy offer with everything wrong, mended one thing at a time: the numbers rise from 2 to 0, 15 never among them."""
-    worst, fallen, high, good = [(450001, 801), (7, 0), (5, 4)], [(6, 801), None, (5, 4)], [(4, 801), None, (5, 4)], [(4, 796), None, (5, 4)]
+    worst, apart, fallen, high, good = [(450001, 801), (7, 0), (5, 4)], [(6, 801), None, (5, 4)], [(6, 801), (5, 4)], [(4, 801), (5, 4)], [(4, 796), (5, 4)]
     t.open(1, 5)
     t.call(clock(30 * 60 - 64))
     t.call(notice(5, 60, 60))
@@ -198,6 +198,7 @@ def link_offer_mended(t):
     t.call(variation(0, 0, 60, worst, 7, ramps=(51, 0)), 11)
     t.call(variation(0, 0, 60, worst, 2, ramps=(51, 0)), 11)
     t.call(variation(0, 0, 60, [(6, 801), (7, 0), (5, 4)], 2, ramps=(51, 0)), 12)
+    t.call(variation(0, 0, 60, apart, 2, ramps=(51, 0)), 12)
     t.call(variation(0, 0, 60, fallen, 2, ramps=(51, 0)), 13)
     t.call(variation(0, 0, 60, high, 2, ramps=(51, 0)), 14)
     t.call(variation(0, 0, 60, high, 2, ramps=(50, 40)), 16)
@@ -345,7 +346,7 @@ def look_ups_of_a_link(t):
         t.call(look_up(0, s, 60), 19)
         t.call(look_up(0, s, 0), 10)
         t.call(look_up(0, s, 336), 10)
-    t.call(standing(0, 0, 60, {2: (-7, 11), 9: (8, 12)}, ramps=(3, 4)))
+    t.call(standing(0, 0, 60, [(-7, 11), (8, 12)], ramps=(3, 4)))
     t.call(look_up(0, 0, 60), 0, 3, 23)
     t.call(variation(0, 0, 60, [(9, 13)], ramps=(5, 6)))
     t.call(look_up(0, 0, 60), 0, 4, 13)

@@ -6,23 +6,8 @@ PROGRAM_LIMITS = (-450000, 450000, 450000, 450000, 450000, 450000)
 # Offers filed over 50.0 MW at 40.00 and 20.0 at 50.00, with the number that each draws
 TRIES = (([(4000, 500), (5000, 200)], 0), ([(4000, 500), (5000, 201)], 0), ([(4000, 499)], 0), ([(4000, 500)], 0), ([(4000, 499), (5000, 201)], 17),
          ([(4000, 501), (5000, 199)], 17), ([(4000, 501)], 17), ([(4000, 500), (5001, 200)], 17), ([(4000, 500), (4500, 1)], 17), ([], 0), ([(4000, 1)], 0),
-         ([(3999, 1)], 17), ([(4000, 500), (5000, 200), (6000, 100)], 0), ([None, (4000, 500), None, (5000, 200)], 0), ({9: (4000, 500)}, 0),
-         ([(3999, 250), (4000, 250)], 17), ([(4000, 250), (4001, 250)], 17), ([(4000, 500), (5000, 1), (5001, 1)], 17), ({8: (4000, 500), 9: (5000, 300)}, 0),
-         ([(4000, 450), (5000, 300)], 17), ({8: (4000, 500), 9: (5001, 1)}, 17), ({0: (4000, 500), 9: (5000, 200)}, 0))
-
-
-def _over(t, held):
-    """Each of TRIES by a facility of its own that holds `held`."""
-    t.open(len(TRIES), 1)
-    for f in range(len(TRIES)):
-        t.call(capability(f, GENERATION))
-        t.call(standing(f, 0, 4, held))
-    t.call(clock(60))
-    for f, (pairs, number) in enumerate(TRIES):
-        t.call(variation(f, 0, 4, pairs, 1), number)
-    varied = [sum(p[1] for p in (pairs.values() if isinstance(pairs, dict) else pairs) if p) for pairs, number in TRIES if number == 0 and pairs]
-    t.call(total(0, 4), 0, len(TRIES), sum(varied) + 700 * (len(TRIES) - len(varied)))
-    t.words()
+         ([(3999, 1)], 17), ([(4000, 500), (5000, 200), (6000, 100)], 0), ([(3999, 250), (4000, 250)], 17), ([(4000, 250), (4001, 250)], 17),
+         ([(4000, 500), (5000, 1), (5001, 1)], 17), ([(4000, 500), (5000, 300)], 0), ([(4000, 450), (5000, 300)], 17), ([(4000, 500), (5001, 1)], 17))
 
 
 def worked_run(t):
@@ -259,17 +244,16 @@ def no_old_offer_inside_the_gate(t):
 
 def prices_tenth_by_tenth(t):
     """Inside the gate with reason 1, each of many offers over 50.0 MW at 40.00 and 20.0 at 50.00: prices are compared tenth by tenth."""
-    _over(t, [(4000, 500), (5000, 200)])
-
-
-def prices_tenth_by_tenth_over_blanks(t):
-    """Prices compared tenth by tenth over a held offer whose pairs stand third and eighth, blanks around them."""
-    _over(t, {2: (4000, 500), 7: (5000, 200)})
-
-
-def prices_tenth_by_tenth_at_the_end(t):
-    """Prices compared tenth by tenth over a held offer whose pairs stand ninth and tenth."""
-    _over(t, {8: (4000, 500), 9: (5000, 200)})
+    t.open(len(TRIES), 1)
+    for f in range(len(TRIES)):
+        t.call(capability(f, GENERATION))
+        t.call(standing(f, 0, 4, [(4000, 500), (5000, 200)]))
+    t.call(clock(60))
+    for f, (pairs, number) in enumerate(TRIES):
+        t.call(variation(f, 0, 4, pairs, 1), number)
+    varied = [sum(quantity for _, quantity in pairs) for pairs, number in TRIES if number == 0 and pairs]
+    t.call(total(0, 4), 0, len(TRIES), sum(varied) + 700 * (len(TRIES) - len(varied)))
+    t.words()
 
 
 def ten_pairs_inside_the_gate(t):
@@ -293,14 +277,15 @@ def ten_pairs_inside_the_gate(t):
 
 def neighbouring_cells(t):
     """Every cell beside a held offer's is filled: the look-up, the total, the gate and the test for a duplicate keep to its own 24 words."""
+    held, varied, more = ([(1, first), (2, 1), (3, 1), (4, 1), (5, last)] for first, last in ((8, 13), (9, 14), (9, 15)))
     t.open(3, 5)
     for f in range(3):
         t.call(capability(f, with_words(GENERATION, {9: 1000, 10: 1000, 11: 1000})))
     for f in range(3):
         for s in (1, 2, 3):
             for slot in (99, 100, 101):
-                t.call(standing(f, s, slot, [(1, 11), None, None, None, (2, 13)], 1000))
-                t.call(variation(f, s, slot, [(1, 12), None, None, None, (2, 14)], 0, 999))
+                t.call(standing(f, s, slot, held, 1000))
+                t.call(variation(f, s, slot, varied, 0, 999))
     t.call(standing(1, 1, 335, [(1, 11)], 1000))
     t.call(standing(1, 2, 0, [(1, 12)], 1000))
     t.call(variation(1, 1, 335, [(1, 13)], 0, 1000))
@@ -309,12 +294,12 @@ def neighbouring_cells(t):
     t.call(look_up(1, 2, 100), 0, 2, 26)
     t.call(look_up(1, 1, 335), 0, 2, 13)
     t.call(total(2, 100), 0, 3, 78)
-    t.call(variation(1, 2, 100, [(1, 12), (2, 14)], 5, 1), 17)
-    t.call(variation(1, 2, 100, [(1, 12), (2, 15)], 5, 1))
-    t.call(variation(2, 3, 101, [(1, 12), None, None, None, (2, 15)], 5, 1))
+    t.call(variation(1, 2, 100, varied, 5, 1), 17)
+    t.call(variation(1, 2, 100, more, 5, 1))
+    t.call(variation(2, 3, 101, more, 5, 1))
     t.call(total(2, 100), 0, 3, 79)
-    t.call(standing(1, 2, 99, [(1, 11), None, None, None, (2, 13)], 1000), 18)
-    t.call(standing(1, 2, 100, [(1, 11), None, None, None, (2, 13)], 1000), 17)
+    t.call(standing(1, 2, 99, held, 1000), 18)
+    t.call(standing(1, 2, 100, held, 1000), 17)
     t.words()
 
 

@@ -303,19 +303,18 @@ def at_the_last_minute(t):
 # ---- old and new
 
 def prices_of_standing_offers(t):
-    """Inside the gate with reason 1, over 50.0 MW at 40.00 and 20.0 at 50.00 in two places: the tenths of both offers are compared, and no others."""
+    """Inside the gate with reason 1, over 50.0 MW at 40.00 and 20.0 at 50.00: the tenths of both offers are compared, and no others."""
     tries = (([(4000, 300)], 0), ([(4000, 500), (5000, 300)], 0), ([(4000, 500), (5000, 200), (6000, 9)], 0), ([(4000, 1)], 0), ([(4001, 1)], 17),
              ([(3999, 1), (4000, 499)], 17), ([(4000, 501)], 17), ([(4000, 450), (5000, 300)], 17), ([(4000, 500), (5001, 1)], 17),
-             ([(4000, 500), (5000, 199), (5001, 1)], 17), ({3: (4000, 500), 9: (5000, 1)}, 0), ({8: (4000, 500), 9: (4999, 1)}, 17), ([], 0))
-    t.open(2 * len(tries), 1)
-    for f in range(2 * len(tries)):
+             ([(4000, 500), (5000, 199), (5001, 1)], 17), ([(4000, 500), (5000, 1)], 0), ([(4000, 500), (4999, 1)], 17), ([], 0))
+    t.open(len(tries), 1)
+    for f in range(len(tries)):
         t.call(capability(f, GENERATION))
-        t.call(standing(f, 0, 4, HELD if f < len(tries) else {4: (4000, 500), 8: (5000, 200)}))
+        t.call(standing(f, 0, 4, HELD))
     t.call(clock(60))
-    for f, (pairs, number) in enumerate(tries + tries):
+    for f, (pairs, number) in enumerate(tries):
         t.call(_again(f, 0, 4, pairs, 1), number)
-        sent = sum(quantity for _, quantity in (pairs.values() if isinstance(pairs, dict) else pairs))
-        t.call(look_up(f, 0, 4), 0, *((3, sent) if number == 0 else (1, 700)))
+        t.call(look_up(f, 0, 4), 0, *((3, sum(quantity for _, quantity in pairs)) if number == 0 else (1, 700)))
     t.words()
 
 

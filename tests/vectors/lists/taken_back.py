@@ -118,16 +118,17 @@ def only_that_period(t):
 
 
 def the_least_that_is_no_take_back(t):
-    """A tenth of a MW in the first pair or the last is a variation; one of 0.0 MW for one period can't be filed, and a standing offer of 0.0 MW can."""
+    """A tenth of a MW is a variation, after blanks 12; one of 0.0 MW for one period can't be filed, and a standing offer of 0.0 MW can."""
     t.open(1, 5)
     t.call(capability(0, GENERATION))
     for s in range(5):
         t.call(standing(0, s, 60, [(1, 9)], filler(s)))
-        for place in (0, 9 if s == 0 else 4):
-            t.call(variation(0, s, 60, {place: (0, 1)}, 0, filler(s)))
+        t.call(variation(0, s, 60, [(0, 1)], 0, filler(s)))
+        for place in (1, 9 if s == 0 else 4):
+            t.call(variation(0, s, 60, {place: (0, 2)}, 0, filler(s)), 12)
             t.call(look_up(0, s, 60), 0, 4, 1)
-            t.call(_back(0, s, 60))
-            t.call(look_up(0, s, 60), 0, 3, 9)
+        t.call(_back(0, s, 60))
+        t.call(look_up(0, s, 60), 0, 3, 9)
         t.call(standing(0, s, 60, [], filler(s)))
         t.call(look_up(0, s, 60), 0, 3, 0)
         t.call(total(s, 60), 0, 1, 0)
@@ -332,16 +333,16 @@ def prices_of_what_stands_afterwards(t):
     """Inside the gate with reason 1, variations over 50.0 MW at 40.00 and 20.0 at 50.00 standing: the tenths of both are compared."""
     tries = (([(4000, 300)], 0), ([(4000, 500), (5000, 200)], 0), ([(4000, 500), (5000, 300)], 0), ([(4000, 500), (5000, 200), (6000, 9)], 0), ([(4000, 1)], 0),
              ([(4001, 1)], 17), ([(3999, 1), (4000, 499)], 17), ([(4000, 501)], 17), ([(4000, 450), (5000, 300)], 17), ([(4000, 500), (5001, 1)], 17),
-             ([(4000, 500), (5000, 199), (5001, 1)], 17), ({3: (4000, 500), 9: (5000, 1)}, 0), ({8: (4000, 500), 9: (4999, 1)}, 17))
-    t.open(2 * len(tries), 1)
-    for f, (pairs, _) in enumerate(tries + tries):
+             ([(4000, 500), (5000, 199), (5001, 1)], 17), ([(4000, 500), (5000, 1)], 0), ([(4000, 500), (4999, 1)], 17))
+    t.open(len(tries), 1)
+    for f, (pairs, _) in enumerate(tries):
         t.call(capability(f, GENERATION))
-        t.call(standing(f, 0, 4, [(4000, 500), (5000, 200)] if f < len(tries) else {4: (4000, 500), 8: (5000, 200)}))
+        t.call(standing(f, 0, 4, [(4000, 500), (5000, 200)]))
         t.call(variation(f, 0, 4, pairs))
     t.call(clock(60))
-    for f, (pairs, number) in enumerate(tries + tries):
+    for f, (pairs, number) in enumerate(tries):
         t.call(_back(f, 0, 4, 1), number)
-        t.call(look_up(f, 0, 4), *((0, 1, 700) if number == 0 else (0, 2, sum(p[1] for p in (pairs.values() if isinstance(pairs, dict) else pairs)))))
+        t.call(look_up(f, 0, 4), 0, *((1, 700) if number == 0 else (2, sum(quantity for _, quantity in pairs))))
     t.words()
 
 
