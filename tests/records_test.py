@@ -1028,15 +1028,14 @@ class Blanks(Tool):
         number, why = any_book_refuses(data)
         self.assertEqual(number, 12 if early else 0, data.hex())
         self.assertEqual(re.findall(r'in place (.*):', why), [', '.join(map(str, early))] if early else [])
-        rows = rows_of('\n'.join(explain_record(data, 64, 5)))
-        shown = []
-        for label, text in rows.items():
-            first, *last = map(int, re.findall('[0-9]+', label) if label.startswith('pair') else ['0'])
-            self.assertIn('at $' in text or text, (True, 'blank', 'blank, before a filled pair') if first else (text,))
-            shown += range(first, (last or [first])[0] + 1) if text == 'blank, before a filled pair' else []
-        self.assertEqual(shown, early, data.hex())
-        self.assertEqual('any book' in rows, bool(early))
-        self.assertEqual(rows['made by'].endswith(' --anyway'), bool(early))
+        lines = explain_record(data, 64, 5)
+        shown = collections.defaultdict(list)
+        for first, last, text in re.findall(r'^  pairs? (\d+)(?: to (\d+))? +(.*)$', '\n'.join(lines), re.M):
+            shown['filled' if ' at $' in text else text] += range(int(first), int(last or first) + 1)
+        self.assertEqual(shown.pop('blank, before a filled pair', []), early, data.hex())
+        self.assertLessEqual(set(shown), {'filled', 'blank'})
+        rows = rows_of('\n'.join(lines))
+        self.assertEqual(('any book' in rows, rows['made by'].endswith(' --anyway')), (bool(early), bool(early)))
 
     def test_what_comes_before_and_after(self):
         """11 before it; 13, 14 and 16 after it. A price on a blank is 12 as well."""
@@ -1363,7 +1362,7 @@ class Answers(Tool):
             f'the standing offer is in force, 1.8 MW in all; {why}', '  proportion  0.001', '  pair 1      0.5 MW at $1.00/MWh',
             '  pair 2      0.0 MW at $2.00/MWh (blank, with a price, before a filled pair)', '  pair 3      0.6 MW at $3.00/MWh',
             '  pair 4      blank, before a filled pair', '  pair 5      0.7 MW at $4.00/MWh'])
-        for line in ('0 1 700 --call 8', self.LOOK_UP, '0 1' + ' 0' * 24 + ' --call 8'):
+        for line in ('0 1 700 --call 8', self.LOOK_UP, '0 1' + ' 0' * 24 + ' --call 8', '0 1 0 0 0 -100 5 0 5 100 5' + ' 0' * 14 + ' 15'):
             self.assertNotIn('filled', self.explained(f'--answer {line}'))
 
     def test_damaged(self):
@@ -1450,7 +1449,8 @@ class Strict(Tool):
                 (build(3, period=4, words=rising), {0, 1, 3, 18} | later), (build(3, period=4, words=blank_alone), {0, 1, 3, 18} | later),
                 (build(4, period=4, words=rising), {0, 1, 3, 10} | later), (build(4, period=4, words=blank_alone), {0, 1, 3, 10} | later),
                 (build(4, period=4, words=rising, ramp_up=10000), {1, 3, 5, 9, 10, 11, 14}), (build(3, period=336, words=rising), {1, 3, 5, 9, 10}),
-                (build(4, words=rising), {1, 3, 5, 9, 10}), (build(3, words=[10000001, 1]), {0, 1, 3, 18} | later), (build(3, words=[1, 99999, 2, 1]), {0, 1, 3, 18} | later),
+                (build(4, words=rising), {1, 3, 5, 9, 10}), (build(3, words=[10000001, 1]), {0, 1, 3, 18} | later),
+                (build(3, words=[1, 99999, 2, 1]), {0, 1, 3, 18} | later), (build(4, period=4, words=[10000001, 1]), {0, 1, 3, 10} | later),
                 (build(1, a=-1), {1, 6}), (build(1), {0, 1, 6}), (build(2, words=[4]), {1, 3, 8}), (build(2, words=[1]), {0, 1, 3, 8}),
                 (build(5, b=49), {1, 3, 5, 7}), (build(5, b=1), {0, 1, 3, 5, 7}), (build(6, reason=6), {1, 7}), (build(6, reason=3), {0, 1}),
                 (build(7), {1, 7}), (build(7, reason=5), {0, 1}), (build(8), {1, 3, 5, 10}), (build(8, period=1), {0, 1, 3, 5, 10, 19}), (build(9), {1, 3, 10})):
@@ -1577,6 +1577,7 @@ class Brief(Tool):
             "  3  standing offer  slot 4             Mon     5  02:00  refused 12         blank refused: quantity 0 with a price, or before a pair that isn't blank",
             '  4  look-up              4  2024-01-01 Mon     5  02:00  standing    170.0  50.0 @ 40.00    0.0 @  0.00  0.0 @ 0.00  120.0 @ 50.00',
             '  5  look-up              4  2024-01-01 Mon     5  02:00  standing    170.0  50.0 @ 40.00  120.0 @ 50.00'])
+        self.assertTrue(self.table(filed + '1@-1,2@0,0@0', None)[-1].endswith('  3.0  1.0 @ -1.00  2.0 @ 0.00'))
         self.assertEqual(self.table(filed + '50@40,0@0,120@50', ['13 0 0'])[-1],
                          '  1  slot 4  Mon     5  02:00  damaged  answer 13 0 0: any book refuses this record with 12 or a lower number')
 
