@@ -21,7 +21,7 @@ sys.path.insert(0, os.path.dirname(TOOL))
 import records  # noqa: E402
 from records_arguments import COMMANDS  # noqa: E402
 from records_files import is_hex  # noqa: E402
-from records_layout import LENGTH, build, read  # noqa: E402
+from records_layout import LENGTH, SERVICES, build, read  # noqa: E402
 
 # One case in so many is a process of its own, with streams of its own.
 STREAMS_EVERY = 20
@@ -137,7 +137,15 @@ class Case:
             words += [option, self.chance.choice(('-', '', 'new', '/dev/full', '/dev/null', self.file(self.records()), self.file(self.records())))]
         return words + (['--terminal'] if self.one_in(9) else [])
 
+    def offer_words(self):
+        """An offer that is sound but for blanks before filled pairs."""
+        pairs = ','.join(self.chance.choice(('0@0', f'5@{place}')) for place in range(self.chance.randint(1, 5)))
+        where = self.chance.choice((['standing', '--slot', '4'], ['variation', '--period', '4']))
+        return [*where, '--facility', '0', '--service', self.chance.choice(SERVICES), self.chance.choice(('--pairs', '--mw')), pairs]
+
     def call_words(self):
+        if self.one_in(8):
+            return self.offer_words() + (['--anyway'] if self.one_in(3) else []) + (self.output_words() if self.one_in(2) else [])
         name = self.chance.choice((*COMMANDS, 'sample'))
         if name == 'sample':
             return [name, *self.output_words()]
