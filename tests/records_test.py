@@ -1445,7 +1445,8 @@ class Strict(Tool):
         for data, numbers in (
                 (build(3, period=4, words=early_blank), {1, 3, 5, 9, 11, 12}), (build(4, period=4, words=early_blank), {1, 3, 5, 9, 10, 11, 12}),
                 (build(3, period=4, words=[5, 0]), {1, 3, 5, 9, 11, 12}), (build(4, period=4, words=[2, 1, 1, 1]), {1, 3, 5, 9, 10, 11, 13}),
-                (build(4, period=4, words=early_blank, ramp_up=-1), {1, 3, 5, 9, 10, 11, 12}), (build(4, period=4, reason=7, words=early_blank), {1, 3, 5, 9, 10, 11}),
+                (build(4, period=4, words=early_blank, ramp_up=-1), {1, 3, 5, 9, 10, 11, 12}),
+                (build(4, period=4, words=early_blank, reason=7), {1, 3, 5, 9, 10, 11}),
                 (build(3, period=4, words=rising), {0, 1, 3, 18} | later), (build(3, period=4, words=blank_alone), {0, 1, 3, 18} | later),
                 (build(4, period=4, words=rising), {0, 1, 3, 10} | later), (build(4, period=4, words=blank_alone), {0, 1, 3, 10} | later),
                 (build(4, period=4, words=rising, ramp_up=10000), {1, 3, 5, 9, 10, 11, 14}), (build(3, period=336, words=rising), {1, 3, 5, 9, 10}),
@@ -1453,7 +1454,8 @@ class Strict(Tool):
                 (build(3, words=[1, 99999, 2, 1]), {0, 1, 3, 18} | later), (build(4, period=4, words=[10000001, 1]), {0, 1, 3, 10} | later),
                 (build(1, a=-1), {1, 6}), (build(1), {0, 1, 6}), (build(2, words=[4]), {1, 3, 8}), (build(2, words=[1]), {0, 1, 3, 8}),
                 (build(5, b=49), {1, 3, 5, 7}), (build(5, b=1), {0, 1, 3, 5, 7}), (build(6, reason=6), {1, 7}), (build(6, reason=3), {0, 1}),
-                (build(7), {1, 7}), (build(7, reason=5), {0, 1}), (build(8), {1, 3, 5, 10}), (build(8, period=1), {0, 1, 3, 5, 10, 19}), (build(9), {1, 3, 10})):
+                (build(7), {1, 7}), (build(7, reason=5), {0, 1}), (build(8), {1, 3, 5, 10}), (build(8, period=1), {0, 1, 3, 5, 10, 19}),
+                (build(9), {1, 3, 10})):
             for book, left_out in ((Book(), set()), (Book(64, 5), {3})):
                 may_be = {number for number in range(22) if not book.wrong(data, read_answer(f'{number} {int(data[5] == 8 and not number)} 0'))}
                 self.assertEqual(may_be, numbers - left_out, data.hex())
