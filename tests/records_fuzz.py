@@ -1,5 +1,6 @@
 """Random command lines, random and damaged files, and closed, full, endless and abandoned streams for tools/records.py.
-A case fails on a traceback, on more or less than one line of complaint, on a file changed in vain, and on status 0 where output was lost.
+A case fails on a traceback, on more or less than one line of complaint, on a file changed in vain, on status 0 where output was lost, and on an
+offer made unasked with a blank before a filled pair.
 Arguments: seconds (10), seed (1), and the number of one case to run it alone. Last line: 'N passed, M failed'."""
 import collections
 import contextlib
@@ -20,7 +21,7 @@ sys.path.insert(0, os.path.dirname(TOOL))
 import records  # noqa: E402
 from records_arguments import COMMANDS  # noqa: E402
 from records_files import is_hex  # noqa: E402
-from records_layout import LENGTH  # noqa: E402
+from records_layout import LENGTH, SERVICES, build, read  # noqa: E402
 
 # One case in so many is a process of its own, with streams of its own.
 STREAMS_EVERY = 20
@@ -43,8 +44,8 @@ VALUES = {
     '--max-generation': ('1300', '130.0MW', '100000'), '--max-combined': ('800', '80MW'), '--max-ramp-up': ('15', '1.5MW/min', '1000.0MW'),
     '--max-primary-proportion': ('500', '62.5%', '1001'), '--reason': ('0', '6', 'shortfall', 'none', '7'), '--proportion': ('1', '1000', '62.5%', '65536'),
     '--ramp-up': ('0', '15', '1.5MW', '10000'), '--ramp-down': ('0', '20', '2MW/min'),
-    '--pairs': ('500@4000,200@5000', '0@0', '1@-1,0@0,5@9', '-5@1', '1@2,1@2'),
-    '--mw': ('50.0@40.00,20.0@50.00', '0.1@-0.01', '-50@40', '9999.9@4500'),
+    '--pairs': ('500@4000,200@5000', '0@0', '0@0,0@0', '1@-1,0@0,5@9', '0@0,5@9', '1@-1,5@9,0@0', '1@9,0@0,5@-1', '1@-1,0@4,5@9', '-5@1', '1@2,1@2'),
+    '--mw': ('50.0@40.00,20.0@50.00', '50.0@40.00,0@0,20.0@50.00', '50.0@40.00,0.0@0.00', '0.1@-0.01', '-50@40', '9999.9@4500'),
     '--call': ('look-up', 'total', 'clock', '3', '9', '77'), '--facilities': ('1', '64', '0', '65'), '--services': ('1', '5', '2'),
 }
 MORE = {
@@ -83,9 +84,15 @@ class Case:
                 data[self.chance.randrange(len(data))] = self.chance.choice((0, 1, 9, 255, self.chance.randrange(256)))
         return bytes(data)
 
+    def offer(self):
+        """Blank and filled pairs in any order, here and there with a price on a blank or more pairs than the service uses."""
+        pairs = [self.chance.choice(((0, 0), (0, 0), (100 * place, 5), (100 * place, 5), (100, 0))) for place in range(self.chance.randint(0, 10))]
+        return build(self.chance.choice((3, 4)), service=self.chance.choice((0, 0, 1, 4)), period=4, words=[word for pair in pairs for word in pair])
+
     def records(self):
         """Bytes that may be records, in one form or the other."""
         data = SAMPLE[:LENGTH * self.chance.randint(0, 9)]
+        data += b''.join(self.offer() for _ in range(self.chance.choice((0, 0, 1, 3))))
         if self.one_in(2):
             data = self.damaged(data)
         if self.one_in(6):
@@ -130,7 +137,15 @@ class Case:
             words += [option, self.chance.choice(('-', '', 'new', '/dev/full', '/dev/null', self.file(self.records()), self.file(self.records())))]
         return words + (['--terminal'] if self.one_in(9) else [])
 
+    def offer_words(self):
+        """An offer that is sound but for blanks before filled pairs."""
+        pairs = ','.join(self.chance.choice(('0@0', f'5@{place}')) for place in range(self.chance.randint(1, 5)))
+        where = self.chance.choice((['standing', '--slot', '4'], ['variation', '--period', '4']))
+        return [*where, '--facility', '0', '--service', self.chance.choice(SERVICES), self.chance.choice(('--pairs', '--mw')), pairs]
+
     def call_words(self):
+        if self.one_in(8):
+            return self.offer_words() + (['--anyway'] if self.one_in(3) else []) + (self.output_words() if self.one_in(2) else [])
         name = self.chance.choice((*COMMANDS, 'sample'))
         if name == 'sample':
             return [name, *self.output_words()]
@@ -232,8 +247,19 @@ def output_fault(words, status, output):
     if words[0] == 'explain' or '--help' in words or '-h' in words:
         return '' if output.endswith(b'\n') and output.isascii() else 'an explanation that is no text'
     if is_hex(output):
-        return '' if all(len(line) == 2 * LENGTH for line in output.decode().split('\n')[:-1]) and output.endswith(b'\n') else 'torn lines'
-    return 'torn records' if len(output) % LENGTH else ''
+        if not output.endswith(b'\n') or any(len(line) != 2 * LENGTH for line in output.decode().split('\n')[:-1]):
+            return 'torn lines'
+        output = bytes.fromhex(output.decode())
+    return 'torn records' if len(output) % LENGTH else blanks_fault(words, output)
+
+
+def blanks_fault(words, data):
+    """Filled pairs come first, unless --anyway is given."""
+    for r in (read(data[start:start + LENGTH]) for start in range(0, len(data), LENGTH)):
+        filled = [quantity != 0 for quantity in r.words[1::2]]
+        if r.call in (3, 4) and '--anyway' not in words and filled != sorted(filled, reverse=True):
+            return 'a blank before a filled pair'
+    return ''
 
 
 def files_fault(case, status):

@@ -234,7 +234,7 @@ class Amounts(Tool):
         for people, units in (
                 ('--mw 50.0@40.00,20.0@50.00', '--pairs 500@4000,200@5000'), ('--mw 50@40,20@50', '--pairs 500@4000,200@5000'),
                 ('--mw 0.3@0.29,1.1@1.15', '--pairs 3@29,11@115'), ('--mw 9999.9@-4500.00', '--pairs 99999@-450000'),
-                ('--mw 0.1@-0.01,0.0@0.00,0.1@0.1', '--pairs 1@-1,0@0,1@10'), ('--mw 0.7@-0.57 --ramp-up 1.5MW --ramp-down 0.3MW/min',
+                ('--mw 0.1@-0.01,0.1@0.1,0.0@0.00', '--pairs 1@-1,1@10,0@0'), ('--mw 0.7@-0.57 --ramp-up 1.5MW --ramp-down 0.3MW/min',
                                                                               '--pairs 7@-57 --ramp-up 15 --ramp-down 3')):
             self.assertEqual(self.made(start + people), self.made(start + units), people)
 
@@ -414,7 +414,18 @@ class BadArguments(Tool):
         (OFFER + '--pairs 1@-10000001', 'refuses this with 11'),
         (OFFER + '--pairs 0@5000', 'refuses this with 12'),
         (OFFER + '--pairs 1@5000,1@4000', 'refuses this with 13'),
-        (OFFER + '--pairs 1@5000,0@0,1@5000', 'refuses this with 13'),
+        (OFFER + '--pairs 1@5000,1@5000', 'refuses this with 13'),
+        (OFFER + '--pairs 1@4000,0@0,1@5000',
+         'refuses this with 12 or a lower number: a blank pair stands before a filled one, in place 2: leave it out, or put it last (--anyway'),
+        (OFFER + '--pairs 1@5000,0@0,1@4000', 'refuses this with 12'),
+        (OFFER + '--pairs 0@0,1@5000', 'a blank pair stands before a filled one, in place 1: leave'),
+        (OFFER + '--mw 0@0,0.0@0.00,1@2,0@0,3@4,0@0', 'a blank pair stands before a filled one, in place 1, 2, 4: leave'),
+        (OFFER + '--pairs 1@4000,0@5,1@5000', 'refuses this with 12 or a lower number: a blank pair has a price'),
+        (OFFER + '--pairs 1@1,0@0,1@5 --ramp-up 10000', 'refuses this with 12'),
+        (OFFER + '--pairs 99999@1,0@0,1@2', 'refuses this with 12'),
+        (OFFER + '--pairs 1@1,0@0,1@5 --reason 7', 'refuses this with 11'),
+        (OFFER + '--pairs 1@1,0@0,100000@5', 'refuses this with 11'),
+        (OFFER + '--pairs 1@1,0@0,1@10000001', 'refuses this with 11'),
         (OFFER + '--pairs 99999@1,1@2', 'refuses this with 16'),
         ('standing --facility 0 --service reserve --slot 4 --pairs 1@1', "'reserve' is no service"),
         ('standing --facility 0 --service 5 --slot 4 --pairs 1@1', 'service 5 is outside 0 to 4'),
@@ -423,6 +434,7 @@ class BadArguments(Tool):
         ('standing --facility 0 --service energy --slot Mon/02:15 --pairs 1@1', 'a period starts at :00 or :30'),
         ('standing --facility 0 --service primary --slot 4 --pairs 1@1 --ramp-up 5', 'an offer for primary has no ramp up'),
         ('standing --facility 0 --service primary --slot 4 --pairs 1@-1', 'refuses this with 11'),
+        ('standing --facility 0 --service primary --slot 4 --pairs 1@1,0@0,0@0,0@0,1@2', 'in place 2, 3, 4: leave'),
         ('standing --facility 0 --service primary --slot 4 --pairs 1@1 --proportion 65536', 'proportion 65536 is outside 0 to 65535'),
         ('standing --facility 0 --service primary --slot 4 --pairs 1@1 --proportion -1', 'proportion -1 is outside 0 to 65535'),
         ('standing --facility 0 --service regulation --slot 4 --pairs 1@1 --proportion 5', 'an offer for regulation has no proportion'),
@@ -437,6 +449,7 @@ class BadArguments(Tool):
         ('variation --facility 0 --service energy --period 4 --mw 0.0@0.00,0@0', 'the least that can be filed is 0.1 MW'),
         ('variation --facility 0 --service primary --period 4 --proportion 5 --pairs 0@0 --anyway', 'the standing offer stands again'),
         ('variation --facility 0 --service energy --period 4 --pairs 0@5', 'refuses this with 12'),
+        ('variation --facility 0 --service energy --period 4 --pairs 1@1,0@0,1@5', 'refuses this with 12'),
         ('variation --facility 0 --service energy --period 4 --pairs 1@1 --take-back', 'not allowed with'),
         ('variation --facility 0 --service energy --period 4 --reason 7 --take-back', 'refuses this with 11'),
         (OFFER + '--take-back', 'required'),
@@ -566,6 +579,10 @@ class Help(Tool):
                 text = self.made(f'{name} {option}').decode()
                 self.assertIn(f'usage: records.py {name}'.strip(), text)
                 self.assertLessEqual(text.count('\n'), 40, name)
+
+    def test_where_blanks_go(self):
+        for name, more in (('standing', '; alone they are an offer of 0.0 MW.'), ('variation', ', and not alone: 0.0 MW cannot be filed for one period.')):
+            self.assertTrue(self.made(f'{name} --help').decode().endswith(f'the rest are blank.\n0@0 is a blank pair. Blanks go last{more}\n'))
 
     def test_one_screen(self):
         lines = self.made('--help').decode().splitlines()
@@ -912,7 +929,7 @@ class Shown(Tool):
         rows = self.rows('standing --facility 0 --service energy --slot 4 --pairs 0@0')
         self.assertEqual((rows['total'], rows['made by']), ('0.0 MW', 'standing --facility 0 --service energy --slot 4 --pairs 0@0'))
         self.assertNotIn('means', rows)
-        for pairs in ('1@0', '0@0,0@0,1@5', '0@5 --anyway'):
+        for pairs in ('1@0', '0@0,0@0,1@5 --anyway', '0@5 --anyway'):
             self.assertNotIn('means', self.rows(f'variation --facility 0 --service energy --period 4 --pairs {pairs}'))
 
     def test_kinds_that_a_record_may_be_of(self):
@@ -989,6 +1006,65 @@ class Shown(Tool):
                 with open(file.name, 'w', encoding='utf-8') as answers:
                     answers.write(text)
                 self.assertIn(message, self.refused(['explain', Streams.SAMPLE, '--answers', file.name]))
+
+
+class Blanks(Tool):
+    """'Refusal 12 also applies where a blank pair stands before a non-blank one.'"""
+
+    def offers(self, filled, service, **fields):
+        """A standing offer and a variation with these pairs filled, at rising prices."""
+        words = [word for place, is_filled in enumerate(filled, 1) for word in ((100 * place, place) if is_filled else (0, 0))]
+        return [build(call, service=service, period=4, words=words, **fields) for call in (3, 4)]
+
+    def test_every_way_to_leave_pairs_blank(self):
+        for service, count in enumerate((10, 5, 5, 5, 5)):
+            for filled in itertools.product((False, True), repeat=count):
+                early = [place for place in range(1, count + 1) if not filled[place - 1] and any(filled[place:])]
+                for data in self.offers(filled, service):
+                    self.check_offer(data, early)
+
+    def check_offer(self, data, early):
+        """The early blanks draw 12 and are shown, and the others aren't."""
+        number, why = any_book_refuses(data)
+        self.assertEqual(number, 12 if early else 0, data.hex())
+        self.assertEqual(re.findall(r'in place (.*):', why), [', '.join(map(str, early))] if early else [])
+        lines = explain_record(data, 64, 5)
+        shown = collections.defaultdict(list)
+        for first, last, text in re.findall(r'^  pairs? (\d+)(?: to (\d+))? +(.*)$', '\n'.join(lines), re.M):
+            shown['filled' if ' at $' in text else text] += range(int(first), int(last or first) + 1)
+        self.assertEqual(shown.pop('blank, before a filled pair', []), early, data.hex())
+        self.assertLessEqual(set(shown), {'filled', 'blank'})
+        rows = rows_of('\n'.join(lines))
+        self.assertEqual(('any book' in rows, rows['made by'].endswith(' --anyway')), (bool(early), bool(early)))
+
+    def test_what_comes_before_and_after(self):
+        """11 before it; 13, 14 and 16 after it. A price on a blank is 12 as well."""
+        for number, fields in (
+                (11, {'reason': 7}), (11, {'words': [1, 1, 0, 0, 2, 100000]}), (11, {'words': [1, 1, 0, 0, 2, -1]}), (11, {'words': [1, 1, 0, 0, 10000001, 1]}),
+                (11, {'words': [1, 1, 10000001, 0, 2, 1]}), (12, {}), (12, {'words': [2, 1, 0, 0, 1, 1]}), (12, {'words': [1, 1, 0, 0, 1, 1]}),
+                (12, {'words': [1, 1, 5, 0, 2, 1]}), (12, {'words': [1, 1, 5, 0]}), (12, {'ramp_up': 10000}), (12, {'ramp_down': -1}),
+                (12, {'words': [1, 99999, 0, 0, 2, 1]}), (13, {'words': [2, 1, 1, 1, 0, 0]}), (14, {'words': [1, 1, 0, 0], 'ramp_up': 10000}),
+                (16, {'words': [1, 99999, 2, 1, 0, 0]}), (0, {'words': [1, 99998, 2, 1, 0, 0]}), (0, {'words': []})):
+            for call in (3, 4):
+                self.assertEqual(any_book_refuses(build(call, period=4, **{'words': [1, 1, 0, 0, 2, 1], **fields}))[0], number, fields)
+
+    def test_one_with_a_price(self):
+        rows = rows_of('\n'.join(explain_record(build(3, words=[5000, 500, 700, 0, 0, 0, 6000, 200, 800, 0]), 64, 5)))
+        self.assertEqual([rows[f'pair {place}'] for place in range(1, 6)], [
+            '50.0 MW at $50.00/MWh', '0.0 MW at $7.00/MWh (blank, with a price, before a filled pair)', 'blank, before a filled pair',
+            '20.0 MW at $60.00/MWh', '0.0 MW at $8.00/MWh (blank, with a price)'])
+
+    def test_pairs_that_the_service_does_not_use(self):
+        """One past the fifth is a stray byte of a reserve offer; no blank stands before it."""
+        data = build(3, service=1, proportion=1, words=[100, 1] + [0] * 8 + [200, 1])
+        text = '\n'.join(explain_record(data, 64, 5))
+        self.assertEqual((rows_of(text)['pairs 2 to 5'], record_test(data, 64, 5)[0]), ('blank', 4))
+        self.assertNotIn('filled', text)
+
+    def test_blanks_last_are_as_if_left_out(self):
+        start = 'standing --facility 0 --service energy --slot 4 --pairs '
+        for pairs, same in (('500@4000,200@5000,0@0', '500@4000,200@5000'), ('0@0,0@0', '0@0'), ('1@1' + ',0@0' * 9, '1@1')):
+            self.assertEqual(self.made(start + pairs), self.made(start + same), pairs)
 
 
 class DamagedRecords(Tool):
@@ -1098,15 +1174,16 @@ class RoundTrip(Tool):
         """A whole number, or the same amount with its unit."""
         return str(value) if self.random.random() < 0.5 else f'{Decimal(value).scaleb(-places):.{places}f}{unit}'
 
-    def pairs(self, count, lowest):
-        """Pairs that any book might take: prices rise, the total is at most 9,999.9 MW, blanks anywhere."""
+    def pairs(self, count, lowest, blanks_last):
+        """Prices rise and the total is at most 9,999.9 MW, so that any book might take them where blanks go last."""
         number = self.random.randint(1, count)
         prices = sorted(self.random.sample(range(lowest, 450001), number))
         quantities = [self.random.choice((0, self.random.randint(1, 99999 // count))) for _ in prices]
-        return [(quantity, price if quantity else 0) for price, quantity in zip(prices, quantities)]
+        pairs = [(quantity, price if quantity else 0) for price, quantity in zip(prices, quantities)]
+        return sorted(pairs, key=lambda pair: pair[0] == 0) if blanks_last else pairs
 
-    def offer(self, service):
-        pairs = self.pairs(10 if service == 0 else 5, -450000 if service == 0 else 0)
+    def offer(self, service, blanks_last=True):
+        pairs = self.pairs(10 if service == 0 else 5, -450000 if service == 0 else 0, blanks_last)
         show = [(f'{Decimal(q).scaleb(-1):.1f}', Decimal(p).scaleb(-2)) for q, p in pairs]
         if self.random.random() < 0.5:
             words = ['--pairs', ','.join(f'{q}@{p}' for q, p in pairs)]
@@ -1141,6 +1218,15 @@ class RoundTrip(Tool):
             self.check(['variation', *who, '--period', str(period), *words], {**named, **want, 'period': str(period)})
             self.check(['look-up', *who, '--period', str(period)], {**named, 'period': str(period)})
             self.check(['total', *who[2:], '--period', str(period)], {'service': named['service'], 'period': str(period)})
+
+    def test_offers_with_blanks_anywhere(self):
+        for _ in range(100):
+            service = self.random.randint(0, 4)
+            words, want = self.offer(service, blanks_last=False)
+            words = ['--facility', '0', '--service', str(service), '--anyway', *words]
+            self.check(['standing', '--slot', '4', *words], want)
+            if want['total'] != '0.0 MW':
+                self.check(['variation', '--period', '4', *words], want)
 
     def test_capabilities(self):
         maxima = [f'max-{name}' for name in ('generation', 'combined', 'primary', 'secondary', 'contingency', 'regulation')]
@@ -1261,6 +1347,24 @@ class Answers(Tool):
         self.assertEqual(explain_answer(read_answer(reserve), 8, 2), ['the standing offer is in force, 5.0 MW in all', '  proportion    0.625',
                                                          '  pair 1        5.0 MW at $1.00/MWh', '  pairs 2 to 5  blank'])
 
+    def test_a_held_blank_before_a_filled_pair(self):
+        """Held offers are not tested again: an older book has it, so the answer is no damaged one."""
+        words = '0 0 0 4000 500 0 0 0 0 5000 200' + ' 0' * 12 + ' 700'
+        why = 'a blank stands before a filled pair: the offer is from an older library, or the book is damaged'
+        rows = ['  pair 1         50.0 MW at $40.00/MWh', '  pairs 2 to 3   blank, before a filled pair', '  pair 4         20.0 MW at $50.00/MWh',
+                '  pairs 5 to 10  blank']
+        for first, text in ((1, 'the standing offer is in force, 70.0 MW in all'), (2, 'the variation is in force, 70.0 MW in all'),
+                            (3, f'the standing offer is in force, 70.0 MW in all; {FRESH}'), (4, f'the variation is in force, 70.0 MW in all; {FRESH}')):
+            for call in ('', ' --call look-up'):
+                self.assertEqual(self.explained(f'--strict --answer 0 {first} {words}{call}').splitlines(), [f'{text}; {why}', *rows])
+        reserve = read_answer('0 1 1 0 0 100 5 200 0 300 6 0 0 400 7' + ' 0' * 10 + ' 18')
+        self.assertEqual(explain_answer(reserve, 8, 1), [
+            f'the standing offer is in force, 1.8 MW in all; {why}', '  proportion  0.001', '  pair 1      0.5 MW at $1.00/MWh',
+            '  pair 2      0.0 MW at $2.00/MWh (blank, with a price, before a filled pair)', '  pair 3      0.6 MW at $3.00/MWh',
+            '  pair 4      blank, before a filled pair', '  pair 5      0.7 MW at $4.00/MWh'])
+        for line in ('0 1 700 --call 8', self.LOOK_UP, '0 1' + ' 0' * 24 + ' --call 8', '0 1 0 0 0 -100 5 0 5 100 5' + ' 0' * 14 + ' 15'):
+            self.assertNotIn('filled', self.explained(f'--answer {line}'))
+
     def test_damaged(self):
         for line in ('17 1 0', '17 0 5', '21 0 0 --call look-up', '0 1 700 --call clock', '0 5 700 --call look-up', '0 0 700 --call look-up', '0 65 0 --call total', '0 -1 0',
                      self.LOOK_UP[:-3] + '701', '0 1 1' + ' 0' * 22 + ' 5 --call total'):
@@ -1333,6 +1437,41 @@ class Strict(Tool):
                 file.write(answer)
                 file.flush()
                 self.statuses(f'--record {bytes(data).hex()} --answers {file.name} {sizes}', ', '.join(f'{what} 1' for what in wrong))
+
+    def test_numbers_that_a_record_rules_out(self):
+        """What its own bytes draw in any book, or never draw; a damaged book's limits and maxima may let anything through."""
+        early_blank, blank_alone, rising = [1, 1, 0, 0, 2, 1], [], [1, 1, 2, 1, 0, 0]
+        later = {5, 9, 11, 14, 15, 16, 17}
+        for data, numbers in (
+                (build(3, period=4, words=early_blank), {1, 3, 5, 9, 11, 12}), (build(4, period=4, words=early_blank), {1, 3, 5, 9, 10, 11, 12}),
+                (build(3, period=4, words=[5, 0]), {1, 3, 5, 9, 11, 12}), (build(4, period=4, words=[2, 1, 1, 1]), {1, 3, 5, 9, 10, 11, 13}),
+                (build(4, period=4, words=early_blank, ramp_up=-1), {1, 3, 5, 9, 10, 11, 12}),
+                (build(4, period=4, words=early_blank, reason=7), {1, 3, 5, 9, 10, 11}),
+                (build(3, period=4, words=rising), {0, 1, 3, 18} | later), (build(3, period=4, words=blank_alone), {0, 1, 3, 18} | later),
+                (build(4, period=4, words=rising), {0, 1, 3, 10} | later), (build(4, period=4, words=blank_alone), {0, 1, 3, 10} | later),
+                (build(4, period=4, words=rising, ramp_up=10000), {1, 3, 5, 9, 10, 11, 14}), (build(3, period=336, words=rising), {1, 3, 5, 9, 10}),
+                (build(4, words=rising), {1, 3, 5, 9, 10}), (build(3, words=[10000001, 1]), {0, 1, 3, 18} | later),
+                (build(3, words=[1, 99999, 2, 1]), {0, 1, 3, 18} | later), (build(4, period=4, words=[10000001, 1]), {0, 1, 3, 10} | later),
+                (build(1, a=-1), {1, 6}), (build(1), {0, 1, 6}), (build(2, words=[4]), {1, 3, 8}), (build(2, words=[1]), {0, 1, 3, 8}),
+                (build(5, b=49), {1, 3, 5, 7}), (build(5, b=1), {0, 1, 3, 5, 7}), (build(6, reason=6), {1, 7}), (build(6, reason=3), {0, 1}),
+                (build(7), {1, 7}), (build(7, reason=5), {0, 1}), (build(8), {1, 3, 5, 10}), (build(8, period=1), {0, 1, 3, 5, 10, 19}),
+                (build(9), {1, 3, 10})):
+            for book, left_out in ((Book(), set()), (Book(64, 5), {3})):
+                may_be = {number for number in range(22) if not book.wrong(data, read_answer(f'{number} {int(data[5] == 8 and not number)} 0'))}
+                self.assertEqual(may_be, numbers - left_out, data.hex())
+
+    def test_what_is_said_of_a_number_ruled_out(self):
+        filed = build(3, period=4, words=[1, 1, 0, 0, 2, 1])
+        for data, answer, text in (
+                (filed, '0 0 0', '\n  answer 0 0 0\n    damaged answer: any book refuses this record with 12 or a lower number\n'),
+                (filed, '13 0 0', '    the book    unchanged\n    damaged answer: any book refuses this record with 12 or a lower number\n'),
+                (filed, '12 0 0', '      the book    unchanged\n'),
+                (build(3, period=4), '12 0 0', '      the book    unchanged\n    damaged answer: no book refuses this record with 12\n')):
+            with tempfile.NamedTemporaryFile('w') as file:
+                file.write(answer)
+                file.flush()
+                self.assertTrue(self.explained(f'--record {data.hex()} --answers {file.name}').endswith(text), answer)
+                self.statuses(f'--record {data.hex()} --answers {file.name}', 'answer 1' if 'damaged' in text else '')
 
     def test_what_no_record_can_be_answered(self):
         with tempfile.NamedTemporaryFile('w') as file:
@@ -1423,8 +1562,29 @@ class Brief(Tool):
         damaged = self.table(varied + '--pairs 300@4000 then ' + varied + '--take-back then ' + read_it, ['0 0 0', '0 0 0', '0 2 300'])
         self.assertTrue(damaged[-1].endswith('variation  30.0'))
 
+    def test_blanks_before_filled_pairs(self):
+        """They stand in their places, in filings and in look-ups; those after the last filled pair are left out."""
+        filed, read_it = 'standing --facility 0 --service energy --slot 4 --anyway --mw ', 'look-up --facility 0 --service energy --period 4'
+        line = ' then '.join((filed + '50@40,0@0,0@0,120@50', filed + '50@40,120@50,0@0', filed + '0@0,0@7', read_it, read_it))
+        held = '0 1 0 0 0 4000 500 0 0 0 0 5000 1200' + ' 0' * 12 + ' 1700'
+        self.assertEqual(self.table(line, None)[2:], [
+            '  1  standing offer  slot 4             Mon     5  02:00  170.0  50.0 @ 40.00    0.0 @  0.00  0.0 @ 0.00  120.0 @ 50.00',
+            '  2  standing offer  slot 4             Mon     5  02:00  170.0  50.0 @ 40.00  120.0 @ 50.00',
+            '  3  standing offer  slot 4             Mon     5  02:00    0.0   0.0 @  7.00',
+            '  4  look-up              4  2024-01-01 Mon     5  02:00',
+            '  5  look-up              4  2024-01-01 Mon     5  02:00'])
+        self.assertEqual(self.table(line, ['12 0 0', '0 0 0', '12 0 0', held, '0 1 1700'])[2:], [
+            "  1  standing offer  slot 4             Mon     5  02:00  refused 12         blank refused: quantity 0 with a price, or before a pair that isn't blank",
+            '  2  standing offer  slot 4             Mon     5  02:00  accepted    170.0  50.0 @ 40.00  120.0 @ 50.00',
+            "  3  standing offer  slot 4             Mon     5  02:00  refused 12         blank refused: quantity 0 with a price, or before a pair that isn't blank",
+            '  4  look-up              4  2024-01-01 Mon     5  02:00  standing    170.0  50.0 @ 40.00    0.0 @  0.00  0.0 @ 0.00  120.0 @ 50.00',
+            '  5  look-up              4  2024-01-01 Mon     5  02:00  standing    170.0  50.0 @ 40.00  120.0 @ 50.00'])
+        self.assertTrue(self.table(filed + '1@-1,2@0,0@0', None)[-1].endswith('  3.0  1.0 @ -1.00  2.0 @ 0.00'))
+        self.assertEqual(self.table(filed + '50@40,0@0,120@50', ['13 0 0'])[-1],
+                         '  1  slot 4  Mon     5  02:00  damaged  answer 13 0 0: any book refuses this record with 12 or a lower number')
+
     def test_calls_without_an_offer(self):
-        line = ('outage --facility 1 --minute 100 --periods 3 then notice --kind shortfall --first 4 --last 9 then withdrawal'
+        line = ('outage --facility 1 --minute 100 --periods 3 then notice --kind shortfall --first 9 --last 4 --anyway then withdrawal'
                 ' then total --service regulation --period 5')
         self.assertEqual(self.table(line, ['0 0 0', '7 0 0', '0 0 0', '0 2 30']), [
             'no.  call        facility  service     period             day  1-48  time   answer         MW',
@@ -1461,7 +1621,7 @@ class Brief(Tool):
             "  3  standing offer  primary reserve  slot 4             Mon     5  02:00  refused 9  not registered: the facility isn't registered for the service"])
 
     def test_without_answers(self):
-        self.assertEqual(self.table('variation --facility 0 --service primary --period 5 --proportion 5 --mw 1@2,0@0,3@4', None), [
+        self.assertEqual(self.table('variation --facility 0 --service primary --period 5 --proportion 5 --mw 1@2,3@4,0@0', None), [
             'variation, facility 0, primary reserve', 'no.  period             day  1-48  time    MW  pairs, MW @ $/MWh',
             '  1       5  2024-01-01 Mon     6  02:30  4.0  1.0 @ 2.00  3.0 @ 4.00'])
         self.assertEqual(self.explained('--brief --record 534f').splitlines(), [
@@ -1572,12 +1732,18 @@ class Vectors(Tool):
         looked_up = {answer.split()[1] for data, _, _, answer in items if data[5:6] == b'\x08' and answer.startswith('0 ')}
         self.assertEqual(looked_up, {'1', '2', '3', '4'})
 
+    def test_standing_offers_with_reasons(self):
+        self.assertLessEqual({0, 11, 17, 18}, self.check(self.lists('k5_calls')))
+
+    def test_blanks_go_last(self):
+        self.assertLessEqual({0, 11, 12, 13}, self.check(self.lists('k7_calls')))
+
     def test_every_byte_with_a_link(self):
         self.assertLessEqual({0, 2, 3, 4, 11, 17}, self.check(self.lists('k3_every_byte')))
 
     def test_pairs_of_short_answers(self):
         """Told the first word and the sum alone, the pairs of the filings are those of the whole answer."""
-        for name, least in (('one_service', 100), ('five_services', 100), ('k1_calls', 100), ('k2_calls', 100), ('k3_calls', 100)):
+        for name, least in (('one_service', 100), ('five_services', 100), ('k1_calls', 100), ('k2_calls', 100), ('k3_calls', 100), ('k7_calls', 100)):
             seen = 0
             for _, items in itertools.groupby(self.numbered(name), lambda item: item[0]):
                 pieces, answers = zip(*((item[1], read_answer(item[4])) for item in items))
@@ -1594,6 +1760,8 @@ class Vectors(Tool):
         self.check(self.program('k1_program'))
         self.check(self.program('k2_program'))
         self.check(self.program('k3_program'))
+        self.check(self.program('k5_program'))
+        self.check(self.program('k7_program'))
 
 
 class Header(unittest.TestCase):

@@ -3,8 +3,8 @@ from collections import namedtuple
 
 from records_amounts import LEAST_WORD, MOST_WORD, BadArgument, show_mw, whole, within
 from records_explain import CALL_TEXTS, FRESH, aligned, offer_rows
-from records_layout import CALLS, IN_FORCE, MOST_FACILITIES, MOST_SERVICES, are_sizes, form_faults, record_test
-from records_refusals import REFUSALS, draws
+from records_layout import CALLS, IN_FORCE, MOST_FACILITIES, MOST_SERVICES, any_book_refuses, are_sizes, early_blanks, form_faults, pairs_of, record_test
+from records_refusals import REFUSALS, SETTLED, draws
 
 Answer = namedtuple('Answer', 'number words sum')
 
@@ -76,7 +76,14 @@ def contradiction(number, data, facilities, services):
     may_be = {tested} if known or tested != 4 else {3, 4}
     if tested == 0:
         may_be = set(range(20)) - ({2, 3, 4} if known else {2, 4})
-    return '' if number in may_be else f'the record test of this record gives {tested}'
+    if number not in may_be:
+        return f'the record test of this record gives {tested}'
+    if tested:
+        return ''
+    surely, _ = any_book_refuses(data, by_calls=False)
+    if surely and not 0 < number <= surely:
+        return f'any book refuses this record with {surely} or a lower number'
+    return f'no book refuses this record with {number}' if number in SETTLED.get(data[5], ()) and number != surely else ''
 
 
 class Book:
@@ -109,6 +116,8 @@ def look_up_lines(answer, service):
     lines = [f'the {CALL_TEXTS[held.call]} is in force, {show_mw(answer.sum)} in all' + (f'; {FRESH}' if held.is_fresh else '')]
     if held.call == 4 and answer.sum == 0:
         lines[0] += '; no filing leaves such a variation: the book is damaged'
+    if early_blanks(pairs_of(answer.words[4:])):
+        lines[0] += '; a blank stands before a filled pair: the offer is from an older library, or the book is damaged'
     if len(answer.words) == 24:
         lines += aligned(offer_rows(service, *answer.words[1:4], answer.words[4:])[:-1])
     return lines

@@ -152,8 +152,8 @@ def add_offer_options(parser, is_variation):
     either.add_argument('--mw', type=mw_pairs, action=Once, metavar='MW@$,..', help='pairs, MW @ dollars per MWh: 50.0@40.00,20.0@50.00')
     if is_variation:
         either.add_argument('--take-back', action='store_true', help='no pairs: takes the variation back, and the standing offer stands again')
-    alone = 'at least one is not: 0.0 MW cannot be filed for one period' if is_variation else 'alone an offer of 0.0 MW'
-    parser.epilog = f'Ten pairs at most for energy, five for reserve and regulation; the rest are blank.\n0@0 is a blank pair, and {alone}.'
+    alone = ', and not alone: 0.0 MW cannot be filed for one period' if is_variation else '; alone they are an offer of 0.0 MW'
+    parser.epilog = f'Ten pairs at most for energy, five for reserve and regulation; the rest are blank.\n0@0 is a blank pair. Blanks go last{alone}.'
 
 
 OPTIONS = {

@@ -5,7 +5,8 @@ from collections import namedtuple
 from records_amounts import show_mw, show_parts
 from records_dates import WEEKDAYS, period_of_day, show_date, show_periods, show_time
 from records_explain import CALL_TEXTS, FRESH, REASON_TEXTS, TAKES_BACK, outage_window, used_offer
-from records_layout import CALLS, IN_FORCE, KIND_NAMES, LENGTH, NOTICES, SERVICES, SERVICE_TEXTS, pairs_of, read, record_test, takes_back
+from records_layout import (CALLS, IN_FORCE, KIND_NAMES, LENGTH, NOTICES, SERVICES, SERVICE_TEXTS, filled_length, pairs_of, read, record_test,
+                            takes_back)
 from records_refusals import REFUSALS, refusal_text
 
 # Texts of a line's cells, '' where there is nothing to say; `pairs` are (price, quantity), `text` what stands in their place.
@@ -137,8 +138,9 @@ def with_filed_pairs(rows, records, answers):
 # ---- the table
 
 def pair_texts(rows):
-    """The pairs of each row but its blanks, aligned with those of the other rows, or its text."""
-    shown = [[(show_parts(quantity, 1), show_parts(price, 2)) for price, quantity in row.pairs if quantity or price] for row in rows]
+    """The pairs of each row but the blanks after its last filled one, aligned with those of the other rows, or its text."""
+    shown = [[(show_parts(quantity, 1), show_parts(price, 2)) for place, (price, quantity) in enumerate(row.pairs, 1)
+              if price or place <= filled_length(row.pairs)] for row in rows]
     widths = [(max(len(row[n][0]) for row in shown if n < len(row)), max(len(row[n][1]) for row in shown if n < len(row)))
               for n in range(max(map(len, shown)))]
     return [row.text or '  '.join(f'{quantity:>{left}} @ {price:>{right}}' for (quantity, price), (left, right) in zip(pairs, widths))

@@ -4,7 +4,8 @@ from itertools import groupby
 from records_amounts import show_mw, show_price, show_proportion, show_ramp
 from records_dates import show_minute, show_period, show_periods, show_slot, show_weekly
 from records_layout import (CALLS, KIND_NAMES, LENGTH, NOTICES, REASONS, SCHEDULE_CUTOFF_MINUTES, SERVICES, SERVICE_TEXTS, alternatives,
-                            any_book_refuses, field_at, form_faults, kinds_with, offer_fields, pairs_of, read, record_test, stray_bytes, takes_back)
+                            any_book_refuses, early_blanks, field_at, form_faults, kinds_with, offer_fields, pairs_of, read, record_test, stray_bytes,
+                            takes_back)
 
 CALL_TEXTS = {1: 'clock', 2: 'capability', 3: 'standing offer', 4: 'variation', 5: 'outage', 6: 'notice', 7: 'withdrawal', 8: 'look-up', 9: 'total'}
 TAKES_BACK = 'takes the variation back: the standing offer stands again, if there is one'
@@ -28,15 +29,17 @@ def with_name(value, names):
 
 def pair_rows(words, count):
     """Pairs one by one, runs of blanks together; past the service's count only those that hold something."""
+    pairs = pairs_of(words)
+    before_filled = {place: ', before a filled pair' for place in early_blanks(pairs)}
     rows = []
-    for empty, run in groupby(enumerate(pairs_of(words), 1), lambda item: item[1] == (0, 0)):
+    for empty, run in groupby(enumerate(pairs, 1), lambda item: item[1] == (0, 0)):
         run = list(run)
         first, last = run[0][0], min(run[-1][0], count)
         if empty and first <= last:
-            rows.append((f'pair {first}' if first == last else f'pairs {first} to {last}', 'blank'))
+            rows.append((f'pair {first}' if first == last else f'pairs {first} to {last}', 'blank' + before_filled.get(first, '')))
         if not empty:
-            rows += [(f'pair {place}', f"{show_mw(quantity)} at {show_price(price)}{'' if quantity else ' (blank, with a price)'}")
-                     for place, (price, quantity) in run]
+            rows += [(f'pair {place}', f'{show_mw(quantity)} at {show_price(price)}'
+                      + ('' if quantity else f" (blank, with a price{before_filled.get(place, '')})")) for place, (price, quantity) in run]
     return rows
 
 

@@ -40,6 +40,16 @@ def pairs_of(words):
     return list(zip(words[0::2], words[1::2]))
 
 
+def filled_length(pairs):
+    """How many there are up to the last that is not blank. 'A pair with quantity 0 is blank.'"""
+    return max((place for place, (_, quantity) in enumerate(pairs, 1) if quantity), default=0)
+
+
+def early_blanks(pairs):
+    """The places, from 1, of blank pairs that stand before one that is not."""
+    return [place for place, (_, quantity) in enumerate(pairs[:filled_length(pairs)], 1) if not quantity]
+
+
 # ---- facility kinds
 
 # What each may do: services it may be registered for, reasons open to it inside the gate, its longest outage in periods (0: none), and
@@ -166,7 +176,7 @@ def record_test(data, facilities, services):
     return (4, faults) if faults else (0, [])
 
 
-# ---- refusals that follow from the record alone, in any book that only calls have written
+# ---- refusals that follow from the record alone, in any book
 
 LAST_CLOCK = 1_000_000_000
 LAST_NOTICE_PERIOD = 40_000_000
@@ -203,23 +213,27 @@ def period_tests(r):
             (r.period > LAST_PERIOD, 10, f'period {r.period} is past the horizon at any clock')]
 
 
-def offer_tests(r):
+def offer_tests(r, by_calls):
+    """Limits and maxima of a damaged book may be larger than any that calls leave."""
     pairs = pairs_of(r.words)
     prices = [price for price, quantity in pairs if quantity != 0]
     total = sum(quantity for _, quantity in pairs)
     lowest = -LARGEST_LIMIT if r.service == 0 else 0
+    early = early_blanks(pairs)
     return [
         (r.reason > 6, 11, f'reason {r.reason} is above 6'),
         (outside([q for _, q in pairs], 0, 99_999), 11, 'a quantity is outside 0.0 to 9999.9 MW'),
-        (outside([p for p, _ in pairs], lowest, LARGEST_LIMIT), 11, 'a price is beyond any limits the book can be opened with'),
+        (by_calls and outside([p for p, _ in pairs], lowest, LARGEST_LIMIT), 11, 'a price is beyond any limits the book can be opened with'),
         (any(q == 0 and p != 0 for p, q in pairs), 12, 'a blank pair has a price'),
+        (early, 12, f"a blank pair stands before a filled one, in place {', '.join(map(str, early))}: leave it out, or put it last"),
         (any(b <= a for a, b in zip(prices, prices[1:])), 13, 'prices of non-blank pairs do not strictly rise'),
         (outside((r.ramp_up, r.ramp_down), 0, 9_999), 14, 'a ramp rate is outside 0.0 to 999.9 MW/min'),
-        (total > 99_999, 16, f'the total, {total} tenths of a MW, is above any maximum')]
+        (by_calls and total > 99_999, 16, f'the total, {total} tenths of a MW, is above any maximum')]
 
 
-def any_book_refuses(data):
-    """A number and why: every book that only calls have written refuses the record with it, or with a lower one; else 0."""
+def any_book_refuses(data, by_calls=True):
+    """A number and why: every book that only calls have written refuses the record with it, or with a lower one; else 0.
+    Not by_calls: every book, damaged ones too."""
     number, faults = record_test(data, MOST_FACILITIES, MOST_SERVICES)
     if number:
         return number, faults[0]
@@ -229,9 +243,9 @@ def any_book_refuses(data):
     if r.call == 2:
         return capability_fault(r)
     if r.call == 3:
-        return first_fault([(outside([r.period], 0, 335), 10, f'slot {r.period} is outside 0 to 335')] + offer_tests(r))
+        return first_fault([(outside([r.period], 0, 335), 10, f'slot {r.period} is outside 0 to 335')] + offer_tests(r, by_calls))
     if r.call == 4:
-        return first_fault(period_tests(r) + offer_tests(r))
+        return first_fault(period_tests(r) + offer_tests(r, by_calls))
     if r.call == 5:
         return first_fault([(outside([r.a], 0, LAST_CLOCK), 7, f'minute {r.a} is outside 0 to the clock'),
                             (not kinds_with(lambda kind: 1 <= r.b <= kind.outage), 7, f'{r.b} periods: {OUTAGES}')])

@@ -40,7 +40,9 @@ REFUSALS = {
     11: Refusal('out of range', 'reason, quantity or price', COORDINATOR,
                 'Reason above 6; a quantity outside 0 to 9,999.9 MW; a price outside its limits (reserve and regulation from 0.00).'
                 ' Blank pairs are tested too.', 'That value.'),
-    12: Refusal('priced blank', 'quantity 0 with a price', COORDINATOR, 'A pair of 0.0 MW has a price.', 'Price 0.00, or give a quantity.'),
+    12: Refusal('blank refused', "quantity 0 with a price, or before a pair that isn't blank", COORDINATOR,
+                'A pair of 0.0 MW has a price, or stands before one that is not blank.',
+                'Price 0.00, or give a quantity; blanks go after the last filled pair.'),
     13: Refusal("prices don't rise", '', COORDINATOR, 'Prices of the non-blank pairs do not strictly rise.',
                 'Order them by price; join pairs of the same price.'),
     14: Refusal('ramp refused', '', COORDINATOR, "An energy offer's ramp-up or ramp-down rate is below 0, above its maximum or above 999.9 MW/min.",
@@ -75,6 +77,9 @@ NOTES_BY_CALL = {
 
 # From 5 on; an offer's own numbers are 9 to 18, of which 18 is for standing offers alone.
 LATER = {1: {6}, 2: {8}, 3: {5, *range(9, 19)}, 4: {5, *range(9, 18)}, 5: {5, 7}, 6: {7}, 7: {7}, 8: {5, 10, 19}, 9: {10}}
+
+# Of these, the ones that a record's own bytes settle, whatever the book holds: slot and pairs, notice and withdrawal.
+SETTLED = {3: {10, 12, 13}, 4: {12, 13}, 6: {7}, 7: {7}}
 
 
 def refusal_text(number, call):
