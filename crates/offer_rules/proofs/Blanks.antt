@@ -3,15 +3,17 @@ use mathlib.Core.Path.{_≡_, refl, sym, ap, _∙_}
 use mathlib.Core.Logic.{_↔_}
 use mathlib.Core.Bool.{Bool, true, false, cond, not, _&&_, _||_, false≢true, true≢false}
 use mathlib.Core.List.{List, [], _∷_, _++_}
-use Prim.Native.Nat.{ℕ, zero, suc, _+_, _-_, _≤_}
+use Prim.Native.Nat.{ℕ, zero, suc, _+_, _-_, _*_, _≤_, _<_}
 use native.Mathlib.Omega.{arith}
 use lib.Dec.{leb}
 use lib.IntN.{ℤ, pos, negsuc, _+ℤ_, +ℤ-idl}
+use lib.ListN.{length, take, drop}
 use borrow.Author.Tests.{eqb-true, lt-leb, leb-false}
-use Rattle.offer_rules.specs.Numbers.{eqZ, between, draw, _then_}
-use Rattle.offer_rules.specs.Offer.{Pair, pairs, is-blank, all-blank, filled-part, BlanksAfter, BlanksLast, sum-of, any-pair, out-of-range, is-priced-blank, blank-before-filled, blank-refused, non-blank-prices, rises, ramp-refused, proportion-refused, above-capacity, offer-number, NoneBeforeFilled, TestedBlanksLast}
+use Rattle.offer_rules.specs.Numbers.{eqZ, word, between, draw, _then_}
+use Rattle.offer_rules.specs.Offer.{Pair, pairs-in, pairs, is-blank, all-blank, filled-part, BlanksAfter, BlanksLast, sum-of, any-pair, out-of-range, is-priced-blank, blank-before-filled, blank-refused, non-blank-prices, rises, ramp-refused, proportion-refused, above-capacity, offer-number, NoneBeforeFilled, TestedBlanksLast}
 use Rattle.offer_rules.specs.Gate.{Grounds, tenths-of, total-tenths, price-of-tenth, same-prices-to, same-prices, gate-refuses}
 use Rattle.offer_rules.proofs.Drawn.{and-left, and-right, or-left, or-right}
+use Rattle.offer_rules.proofs.Pairs.{pair-at, pairs-from, no-pairs-from}
 
 -- ---- what 12 leaves
 
@@ -162,3 +164,30 @@ first-tells x l h = go (is-blank x) refl h
     go : (t : Bool) → is-blank x ≡ t → BlanksAfter (cond t [] (x ∷ filled-part l)) (x ∷ l) → (t && all-blank l) ≡ t
     go true e k = and-right (is-blank x) (all-blank l) (ap all-blank (k .followed) ∙ k .only-blanks)
     go false e k = refl
+
+-- Among the words of an offer's pairs, the filled part is as many as it counts.
+pub part-lent : (ws : List ℤ) → pairs-in (take (2 * length (filled-part (pairs-in ws))) ws) ≡ filled-part (pairs-in ws)
+unfolding pairs-in filled-part
+part-lent [] = refl
+part-lent (p ∷ []) = refl
+part-lent (p ∷ (q ∷ ws)) = go (is-blank x) (part-lent ws)
+  where
+    x : Pair
+    x = record { price = p; quantity = q }
+    go : (t : Bool) → pairs-in (take (2 * length (filled-part (pairs-in ws))) ws) ≡ filled-part (pairs-in ws)
+        → pairs-in (take (2 * length (cond t [] (x ∷ filled-part (pairs-in ws)))) (p ∷ (q ∷ ws))) ≡ cond t [] (x ∷ filled-part (pairs-in ws))
+    go true k = refl
+    go false k =
+        let n = length (filled-part (pairs-in ws)) in
+        let e : 2 * suc n ≡ suc (suc (2 * n)) = omega arith in
+        rw e (ap (λ (l : List Pair). x ∷ l) k)
+
+-- The filled part from pair i on, where the pairs before it are filled.
+pub filled-from : (ws : List ℤ) (i : ℕ) → 2 * i + 1 < length ws
+    → filled-part (pairs-in (drop (2 * i) ws)) ≡ cond (eqZ (word ws (2 * i + 1)) (pos 0)) [] (pair-at ws i ∷ filled-part (pairs-in (drop (2 * (i + 1)) ws)))
+unfolding filled-part is-blank
+filled-from ws i h = ap filled-part (pairs-from ws i h)
+
+pub none-left-filled : (ws : List ℤ) (n : ℕ) → length ws ≤ n → filled-part (pairs-in (drop n ws)) ≡ []
+unfolding filled-part
+none-left-filled ws n h = ap filled-part (no-pairs-from ws n (omega arith))

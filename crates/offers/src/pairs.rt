@@ -8,13 +8,14 @@ ghost use lib.IntN.{pos, natAbs, _+ℤ_};
 ghost use lib.ListN.{length, drop};
 ghost use Rattle.offer_rules.specs.Offer.{pairs-in, pairs, all-blank, BlanksLast, sum-of, lowest-price, highest-price, any-pair};
 ghost use Rattle.units.specs.Typed.{price-of, quantity-of};
-ghost use Rattle.offers.specs.PairTests.{blank, is-out-of-range, is-empty, all-empty, still-rises, with-filled, found-from, found-in, pair-is-out, pairs-number, used-pairs, FiveUsed, UsesFive};
+ghost use Rattle.offers.specs.PairTests.{is-out-of-range, is-empty, all-empty, still-rises, with-filled, found-from, found-in, pair-is-out, pairs-number, used-pairs, FiveUsed, UsesFive};
 use layout::facility;
 use layout::offer;
 use layout::refusal;
 use units::Price;
 use units::Quantity;
 use units::is_beyond;
+use units::is_blank;
 use units::is_zero;
 use units::price_at;
 use units::quantity_at;
@@ -50,12 +51,6 @@ pub fn sum_of(pairs: &[i32]) -> i64
 }
 
 // ---- blank pairs
-
-pub fn is_blank(quantity: Quantity) -> bool
-    ensures { λ r. ⌜ r ≡ blank quantity ⌝ }
-{
-    is_zero(quantity.0)
-}
 
 // A filed offer "whose pairs are all blank": as "all non-blank pairs come first", its first pair tells.
 pub fn is_all_blank(offer: &[i32]) -> bool

@@ -1,5 +1,12 @@
--- gate_refuses: open, or else the reason, and then the prices.
-use Rattle.offer_rules.specs.Gate.{gate-refuses}
+-- gate_refuses: open; else the reason by kind, service and period; then the totals and the prices, of the pairs to walk.
+use mathlib.Core.Path.{_≡_, sym, _∙_}
+use mathlib.Core.Bool.{Bool, true, false, not, _&&_}
+use borrow.Author.Tests.{not-true, not-false}
+use Rattle.offer_rules.specs.Offer.{pairs-in}
+use Rattle.offer_rules.specs.Gate.{total-tenths, same-prices, total-moved, gate-refuses}
+use Rattle.offer_rules.proofs.Blanks.{gate-by-first}
+use Rattle.gate.specs.Meaning.{grounds-of}
+use Rattle.gate.proofs.Admitted.{by-totals-and-prices}
 use borrow.Author.Needs.{needs}
 use Rattle.gate.proofs.gate_refuses.Statement.{statement}
 use Rattle.gate.proofs.gate_refuses.Tie as tie
@@ -11,26 +18,45 @@ returns : tie.Need-returns
 unfolding gate-refuses
 returns c = rw (← c .before .is-before-closure .ensures, c .if1 .taken)
 
-is-allowed-requires : tie.Need-is-allowed-requires
-is-allowed-requires c κs = search needs
+is-admitted-requires : tie.Need-is-admitted-requires
+is-admitted-requires c κs = search needs
+
+returns-2 : tie.Need-returns-2
+returns-2 c =
+    let s = c .before .before .before .before in
+    let a = c .before .is-admitted in
+    sym (by-totals-and-prices (s .args .clock) (grounds-of (s .args .g)) (s .args .service) (s .args .period) (s .args .reason) (pairs-in (s .args .old .now)) (pairs-in (s .args .new .now))
+    (sym (c .before .before .before .is-before-closure .ensures) ∙ c .before .before .if1 .left) false (sym (a .ensures) ∙ not-true (a .result) (c .if2 .taken)))
+
+pairs-to-walk-requires : tie.Need-pairs-to-walk-requires
+pairs-to-walk-requires c κs = search needs
+
+is-total-moved-requires : tie.Need-is-total-moved-requires
+is-total-moved-requires c κs = search needs
+
+-- The pairs that are walked stand for all of new's.
+decided : (c : tie.After-pairs-to-walk) → let s = c .before .before .before .before .before in let old = pairs-in (s .args .old .now) in let new = pairs-in (c .pairs-to-walk .result .now) in
+    gate-refuses (s .args .clock) (grounds-of (s .args .g)) (s .args .service) (s .args .period) (s .args .reason) old (pairs-in (s .args .new .now))
+    ≡ not (total-moved (s .args .reason) (total-tenths old) (total-tenths new) && same-prices old new)
+decided c =
+    let s = c .before .before .before .before .before in
+    let a = c .before .before .is-admitted in
+    gate-by-first (c .pairs-to-walk .ensures .0) (s .args .clock) (grounds-of (s .args .g)) (s .args .service) (s .args .period) (s .args .reason) (pairs-in (s .args .old .now))
+    ∙ by-totals-and-prices (s .args .clock) (grounds-of (s .args .g)) (s .args .service) (s .args .period) (s .args .reason) (pairs-in (s .args .old .now)) (pairs-in (c .pairs-to-walk .result .now))
+    (sym (c .before .before .before .before .is-before-closure .ensures) ∙ c .before .before .before .if1 .left) true (sym (a .ensures) ∙ not-false (a .result) (c .before .if2 .left))
 
 same-prices-requires : tie.Need-same-prices-requires
 same-prices-requires c κs = search needs
 
-returns-2 : tie.Need-returns-2
-unfolding gate-refuses
-returns-2 c =
-    rw (
-      ← c .before .before .before .before .is-before-closure .ensures,
-      c .before .before .before .if1 .left,
-      ← c .before .before .is-allowed .ensures,
-      c .before .if2 .taken,
-      ← c .same-prices .ensures,
-    )
-
 returns-3 : tie.Need-returns-3
-unfolding gate-refuses
-returns-3 c = rw (← c .before .before .before .is-before-closure .ensures, c .before .before .if1 .left, ← c .before .is-allowed .ensures, c .if2 .left)
+returns-3 c =
+    let m = c .before .before .is-total-moved in
+    sym (decided (c .before .before .before) ∙ rw (← m .ensures, c .before .if3 .taken, ← c .same-prices .ensures))
+
+returns-4 : tie.Need-returns-4
+returns-4 c =
+    let m = c .before .is-total-moved in
+    sym (decided (c .before .before) ∙ rw (← m .ensures, c .if3 .left))
 
 pub gate-refuses-spec : {M : Type 1} → statement M
 gate-refuses-spec =
@@ -38,7 +64,10 @@ gate-refuses-spec =
     (tie.spec
     is-before-closure-requires
     returns
-    is-allowed-requires
-    same-prices-requires
+    is-admitted-requires
     returns-2
-    returns-3)
+    pairs-to-walk-requires
+    is-total-moved-requires
+    same-prices-requires
+    returns-3
+    returns-4)
