@@ -45,7 +45,7 @@ part-new-end : tie.Need-part-new-end
 part-new-end c = search needs
 
 gate-number-requires : tie.Need-gate-number-requires
-gate-number-requires c κs = search needs
+gate-number-requires c κs = let s = c .before .before .before .before .before .before in (search needs, search needs, search needs, search needs, search needs, λ _. (search needs, rw (pairs-lent (s .args .offer .now)) (s .pre .6)))
 
 returns-2 : tie.Need-returns-2
 returns-2 c =
