@@ -4,10 +4,10 @@ ghost use mathlib.Core.Path.{_≡_};
 ghost use mathlib.Core.Bool.{true, _&&_};
 ghost use Prim.Native.Nat.{_+_, _-_, _*_, _≤_, _<_};
 ghost use lib.Dec.{ltb};
-ghost use lib.ListN.{length};
+ghost use lib.ListN.{length, drop};
 ghost use Rattle.offer_rules.specs.Numbers.{toNat, eqZ};
 ghost use Rattle.offer_rules.specs.Kinds.{admits};
-ghost use Rattle.offer_rules.specs.Offer.{pairs-in, filled-part, BlanksAfter, BlanksLast};
+ghost use Rattle.offer_rules.specs.Offer.{pairs-in, all-blank, filled-part, BlanksAfter, BlanksLast};
 ghost use Rattle.offer_rules.specs.Gate.{total-tenths, same-prices, covers, is-open, admits-service, period-covered, total-moved, gate-refuses};
 ghost use Rattle.gate.specs.Differing.{first-differing};
 ghost use Rattle.gate.specs.Merging.{left-of, alike, differ, merged};
@@ -258,8 +258,23 @@ fn filled_count(pairs: &[i32]) -> usize
     offer::PAIR_COUNT
 }
 
-// The pairs to walk. A filed offer is walked up to its first blank, since "all non-blank pairs come first"; "A held offer, which may be older, is still walked to its
-// last pair."
+// How many pairs there are up to the last that isn't blank.
+fn count_to_last(pairs: &[i32]) -> usize
+    requires { ⌜ length (now pairs) ≤ 20 ⌝ }
+    ensures { λ r. ⌜ (2 * r ≤ length (now (pairs .entry))) × (all-blank (pairs-in (drop (2 * r) (now (pairs .entry)))) ≡ true) ⌝ }
+{
+    let mut n = pairs.len() / 2;
+    while 0 < n {
+        if !is_blank(quantity_at(pairs, 2 * n - 1)) {
+            return n;
+        }
+        n -= 1;
+    }
+    0
+}
+
+// The pairs to walk: of a filed offer those before its first blank, since "all non-blank pairs come first"; "A held offer, which may be older, is still walked to its
+// last pair", blank pairs among the others included.
 fn pairs_to_walk(pairs: &[i32], filed: bool) -> &[i32]
     requires { ⌜ (length (now pairs) ≤ 20) × (filed ≡ true → (length (now pairs) ≡ 20) × BlanksLast (pairs-in (now pairs))) ⌝ }
     ensures { λ r. ⌜ BlanksAfter (pairs-in (now r)) (pairs-in (now (pairs .entry))) × (length (now r) ≤ 20) ⌝ }
@@ -268,7 +283,8 @@ fn pairs_to_walk(pairs: &[i32], filed: bool) -> &[i32]
         let end = 2 * filled_count(pairs);
         return &pairs[0..end];
     }
-    pairs
+    let end = 2 * count_to_last(pairs);
+    &pairs[0..end]
 }
 
 // 17, of a variation and of a standing offer over a held one; old holds no pairs where no offer is in force. New is the filed one, or where a variation is taken back a
@@ -292,9 +308,10 @@ pub fn gate_refuses(
     if !is_admitted(g, service, period, reason) {
         return true;
     }
-    let walked = pairs_to_walk(new, filed);
-    if is_total_moved(reason, old, walked) {
-        return !same_prices(old, walked);
+    let before = pairs_to_walk(old, false);
+    let after = pairs_to_walk(new, filed);
+    if is_total_moved(reason, before, after) {
+        return !same_prices(before, after);
     }
     true
 }

@@ -3,7 +3,7 @@ use mathlib.Core.Path.{_≡_, refl, sym, ap, _∙_}
 use mathlib.Core.Logic.{_↔_}
 use mathlib.Core.Bool.{Bool, true, false, cond, not, _&&_, _||_, false≢true, true≢false}
 use mathlib.Core.List.{List, [], _∷_, _++_}
-use Prim.Native.Nat.{ℕ, zero, suc, _+_, _-_, _*_, _≤_, _<_}
+use Prim.Native.Nat.{ℕ, zero, suc, _+_, _-_, _*_, _≤_, _<_, min}
 use native.Mathlib.Omega.{arith}
 use lib.Dec.{leb}
 use lib.IntN.{ℤ, pos, negsuc, _+ℤ_, +ℤ-idl}
@@ -132,10 +132,15 @@ module _ (blanks : List Pair) (h : all-blank blanks ≡ true) where
       go true e later = refl
       go false e later = let m = leb-false n (tenths-of x) e in later (omega (arith, m))
 
-  same-to-before : (old first : List Pair) (n : ℕ) → same-prices-to n old (first ++ blanks) ≡ same-prices-to n old first
+  same-new-to : (old first : List Pair) (n : ℕ) → same-prices-to n old (first ++ blanks) ≡ same-prices-to n old first
   unfolding same-prices-to
-  same-to-before old first zero = refl
-  same-to-before old first (suc n) = rw (same-to-before old first n, price-before first (suc n) (omega arith))
+  same-new-to old first zero = refl
+  same-new-to old first (suc n) = rw (same-new-to old first n, price-before first (suc n) (omega arith))
+
+  same-old-to : (first new : List Pair) (n : ℕ) → same-prices-to n (first ++ blanks) new ≡ same-prices-to n first new
+  unfolding same-prices-to
+  same-old-to first new zero = refl
+  same-old-to first new (suc n) = rw (same-old-to first new n, price-before first (suc n) (omega arith))
 
 -- 13, 16 and 17 of an offer, by its first pairs
 module _ {first l : List Pair} (after : BlanksAfter first l) where
@@ -148,13 +153,13 @@ module _ {first l : List Pair} (after : BlanksAfter first l) where
   tenths-of-first : total-tenths l ≡ total-tenths first
   tenths-of-first = ap total-tenths (after .followed) ∙ tenths-before (after .blanks) (after .only-blanks) first
 
-  same-prices-as-first : (old : List Pair) → same-prices old l ≡ same-prices old first
-  unfolding same-prices
-  same-prices-as-first old = rw (tenths-of-first, after .followed) (same-to-before (after .blanks) (after .only-blanks) old first _)
+  pub gate-by-new : (now : ℕ) (g : Grounds) (s p reason : ℕ) (old : List Pair) → gate-refuses now g s p reason old l ≡ gate-refuses now g s p reason old first
+  unfolding gate-refuses same-prices
+  gate-by-new now g s p reason old = rw (tenths-of-first, after .followed, same-new-to (after .blanks) (after .only-blanks) old first (min (total-tenths old) (total-tenths first)))
 
-  pub gate-by-first : (now : ℕ) (g : Grounds) (s p reason : ℕ) (old : List Pair) → gate-refuses now g s p reason old l ≡ gate-refuses now g s p reason old first
-  unfolding gate-refuses
-  gate-by-first now g s p reason old = rw (tenths-of-first, same-prices-as-first old)
+  pub gate-by-old : (now : ℕ) (g : Grounds) (s p reason : ℕ) (new : List Pair) → gate-refuses now g s p reason l new ≡ gate-refuses now g s p reason first new
+  unfolding gate-refuses same-prices
+  gate-by-old now g s p reason new = rw (tenths-of-first, after .followed, same-old-to (after .blanks) (after .only-blanks) first new (min (total-tenths first) (total-tenths new)))
 
 -- An offer's pairs are all blank where its first one is.
 pub first-tells : (x : Pair) (l : List Pair) → BlanksLast (x ∷ l) → all-blank (x ∷ l) ≡ is-blank x
@@ -181,6 +186,30 @@ part-lent (p ∷ (q ∷ ws)) = go (is-blank x) (part-lent ws)
         let n = length (filled-part (pairs-in ws)) in
         let e : 2 * suc n ≡ suc (suc (2 * n)) = omega arith in
         rw e (ap (λ (l : List Pair). x ∷ l) k)
+
+-- The pairs before pair n and those from it on.
+split-at : (n : ℕ) (ws : List ℤ) → pairs-in ws ≡ pairs-in (take (2 * n) ws) ++ pairs-in (drop (2 * n) ws)
+unfolding pairs-in
+split-at zero ws = refl
+split-at (suc n) [] = let e : 2 * suc n ≡ suc (suc (2 * n)) = omega arith in rw e
+split-at (suc n) (p ∷ []) = let e : 2 * suc n ≡ suc (suc (2 * n)) = omega arith in rw e
+split-at (suc n) (p ∷ (q ∷ ws)) = let e : 2 * suc n ≡ suc (suc (2 * n)) = omega arith in rw e (ap (λ (l : List Pair). record { price = p; quantity = q } ∷ l) (split-at n ws))
+
+pub blanks-from : (n : ℕ) (ws : List ℤ) → all-blank (pairs-in (drop (2 * n) ws)) ≡ true → BlanksAfter (pairs-in (take (2 * n) ws)) (pairs-in ws)
+blanks-from n ws h = record { blanks = pairs-in (drop (2 * n) ws); followed = split-at n ws; only-blanks = h }
+
+-- The pair before pair n is blank, and so are those from it on.
+pub blank-before : (ws : List ℤ) (n : ℕ) → 1 ≤ n → 2 * n ≤ length ws → eqZ (word ws (2 * n - 1)) (pos 0) ≡ true → all-blank (pairs-in (drop (2 * n) ws)) ≡ true
+    → all-blank (pairs-in (drop (2 * (n - 1)) ws)) ≡ true
+unfolding all-blank is-blank
+blank-before ws n h k e later =
+    let i : n - 1 + 1 ≡ n = omega arith in
+    let j : 2 * (n - 1) + 1 ≡ 2 * n - 1 = omega arith in
+    ap all-blank (pairs-from ws (n - 1) (omega arith)) ∙ rw (i, j, e, later)
+
+pub none-left-blank : (ws : List ℤ) (n : ℕ) → length ws ≤ n + 1 → all-blank (pairs-in (drop n ws)) ≡ true
+unfolding all-blank
+none-left-blank ws n h = ap all-blank (no-pairs-from ws n h)
 
 -- The filled part from pair i on, where the pairs before it are filled.
 pub filled-from : (ws : List ℤ) (i : ℕ) → 2 * i + 1 < length ws

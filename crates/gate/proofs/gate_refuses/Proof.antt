@@ -1,10 +1,10 @@
 -- gate_refuses: open; else the reason by kind, service and period; then the totals and the prices, of the pairs to walk.
 use mathlib.Core.Path.{_≡_, sym, _∙_}
-use mathlib.Core.Bool.{Bool, true, false, not, _&&_}
+use mathlib.Core.Bool.{true, false, not, _&&_, false≢true}
 use borrow.Author.Tests.{not-true, not-false}
 use Rattle.offer_rules.specs.Offer.{pairs-in}
 use Rattle.offer_rules.specs.Gate.{total-tenths, same-prices, total-moved, gate-refuses}
-use Rattle.offer_rules.proofs.Blanks.{gate-by-first}
+use Rattle.offer_rules.proofs.Blanks.{gate-by-old, gate-by-new}
 use Rattle.gate.specs.Meaning.{grounds-of}
 use Rattle.gate.proofs.Admitted.{by-totals-and-prices}
 use borrow.Author.Needs.{needs}
@@ -29,21 +29,28 @@ returns-2 c =
     (sym (c .before .before .before .is-before-closure .ensures) ∙ c .before .before .if1 .left) false (sym (a .ensures) ∙ not-true (a .result) (c .if2 .taken)))
 
 pairs-to-walk-requires : tie.Need-pairs-to-walk-requires
-pairs-to-walk-requires c κs = search needs
+pairs-to-walk-requires c κs = (c .before .before .before .before .pre .2, λ filed. absurd (false≢true filed))
+
+pairs-to-walk-requires-2 : tie.Need-pairs-to-walk-requires-2
+pairs-to-walk-requires-2 c κs = search needs
 
 is-total-moved-requires : tie.Need-is-total-moved-requires
 is-total-moved-requires c κs = search needs
 
--- The pairs that are walked stand for all of new's.
-decided : (c : tie.After-pairs-to-walk) → let s = c .before .before .before .before .before in let old = pairs-in (s .args .old .now) in let new = pairs-in (c .pairs-to-walk .result .now) in
-    gate-refuses (s .args .clock) (grounds-of (s .args .g)) (s .args .service) (s .args .period) (s .args .reason) old (pairs-in (s .args .new .now))
-    ≡ not (total-moved (s .args .reason) (total-tenths old) (total-tenths new) && same-prices old new)
+-- The pairs that are walked stand for all of old's and of new's.
+decided : (c : tie.After-pairs-to-walk2) → let s = c .before .before .before .before .before .before in let before = pairs-in (c .before .pairs-to-walk .result .now) in let after = pairs-in (c .pairs-to-walk2 .result .now) in
+    gate-refuses (s .args .clock) (grounds-of (s .args .g)) (s .args .service) (s .args .period) (s .args .reason) (pairs-in (s .args .old .now)) (pairs-in (s .args .new .now))
+    ≡ not (total-moved (s .args .reason) (total-tenths before) (total-tenths after) && same-prices before after)
 decided c =
-    let s = c .before .before .before .before .before in
-    let a = c .before .before .is-admitted in
-    gate-by-first (c .pairs-to-walk .ensures .0) (s .args .clock) (grounds-of (s .args .g)) (s .args .service) (s .args .period) (s .args .reason) (pairs-in (s .args .old .now))
-    ∙ by-totals-and-prices (s .args .clock) (grounds-of (s .args .g)) (s .args .service) (s .args .period) (s .args .reason) (pairs-in (s .args .old .now)) (pairs-in (c .pairs-to-walk .result .now))
-    (sym (c .before .before .before .before .is-before-closure .ensures) ∙ c .before .before .before .if1 .left) true (sym (a .ensures) ∙ not-false (a .result) (c .before .if2 .left))
+    let s = c .before .before .before .before .before .before in
+    let g = grounds-of (s .args .g) in
+    let before = pairs-in (c .before .pairs-to-walk .result .now) in
+    let after = pairs-in (c .pairs-to-walk2 .result .now) in
+    let a = c .before .before .before .is-admitted in
+    gate-by-new (c .pairs-to-walk2 .ensures .0) (s .args .clock) g (s .args .service) (s .args .period) (s .args .reason) (pairs-in (s .args .old .now))
+    ∙ gate-by-old (c .before .pairs-to-walk .ensures .0) (s .args .clock) g (s .args .service) (s .args .period) (s .args .reason) after
+    ∙ by-totals-and-prices (s .args .clock) g (s .args .service) (s .args .period) (s .args .reason) before after
+    (sym (c .before .before .before .before .before .is-before-closure .ensures) ∙ c .before .before .before .before .if1 .left) true (sym (a .ensures) ∙ not-false (a .result) (c .before .before .if2 .left))
 
 same-prices-requires : tie.Need-same-prices-requires
 same-prices-requires c κs = search needs
@@ -67,6 +74,7 @@ gate-refuses-spec =
     is-admitted-requires
     returns-2
     pairs-to-walk-requires
+    pairs-to-walk-requires-2
     is-total-moved-requires
     same-prices-requires
     returns-3
