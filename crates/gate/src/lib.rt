@@ -8,7 +8,7 @@ ghost use lib.ListN.{length, drop};
 ghost use Rattle.offer_rules.specs.Numbers.{toNat, eqZ};
 ghost use Rattle.offer_rules.specs.Kinds.{admits};
 ghost use Rattle.offer_rules.specs.Offer.{pairs-in, all-blank, filled-part, BlanksAfter, BlanksLast};
-ghost use Rattle.offer_rules.specs.Gate.{total-tenths, same-prices, covers, is-open, admits-service, period-covered, total-moved, gate-refuses};
+ghost use Rattle.offer_rules.specs.Gate.{total-tenths, same-prices, covers, is-open, admits-service, period-covered, total-moved, is-excepted};
 ghost use Rattle.gate.specs.Differing.{first-differing};
 ghost use Rattle.gate.specs.Merging.{left-of, alike, differ, merged};
 ghost use Rattle.gate.specs.Meaning.{window-of, grounds-of};
@@ -258,17 +258,19 @@ fn filled_count(pairs: &[i32]) -> usize
     offer::PAIR_COUNT
 }
 
-// How many pairs there are up to the last that isn't blank.
+// How many pairs there are up to the last that isn't blank; where there are fewer than ten, all.
 fn count_to_last(pairs: &[i32]) -> usize
     requires { ⌜ length (now pairs) ≤ 20 ⌝ }
     ensures { λ r. ⌜ (2 * r ≤ length (now (pairs .entry))) × (all-blank (pairs-in (drop (2 * r) (now (pairs .entry)))) ≡ true) ⌝ }
 {
-    let mut n = pairs.len() / 2;
-    while 0 < n {
+    if pairs.len() < 2 * offer::PAIR_COUNT {
+        return pairs.len() / 2;
+    }
+    for i in 0..offer::PAIR_COUNT {
+        let n = offer::PAIR_COUNT - i;
         if !is_blank(quantity_at(pairs, 2 * n - 1)) {
             return n;
         }
-        n -= 1;
     }
     0
 }
@@ -287,10 +289,9 @@ fn pairs_to_walk(pairs: &[i32], filed: bool) -> &[i32]
     &pairs[0..end]
 }
 
-// 17, of a variation and of a standing offer over a held one; old holds no pairs where no offer is in force. New is the filed one, or where a variation is taken back a
-// held one, or none.
-pub fn gate_refuses(
-    clock: u64,
+// Whether a filing inside gate closure is excepted, of a variation and of a standing offer over a held one; old holds no pairs where no offer is in force. New is the
+// filed one, or where a variation is taken back a held one, or none.
+pub fn is_excepted(
     g: Grounds,
     service: u8,
     period: u64,
@@ -299,19 +300,16 @@ pub fn gate_refuses(
     new: &[i32],
     filed: bool,
 ) -> bool
-    requires { ⌜ (clock ≤ 1000000000) × (period < 2147483648) × (length (now old) ≤ 20) × (length (now new) ≤ 20) × (filed ≡ true → (length (now new) ≡ 20) × BlanksLast (pairs-in (now new))) ⌝ }
-    ensures { λ r. ⌜ r ≡ gate-refuses clock (grounds-of g) service period reason (pairs-in (now (old .entry))) (pairs-in (now (new .entry))) ⌝ }
+    requires { ⌜ (period < 2147483648) × (length (now old) ≤ 20) × (length (now new) ≤ 20) × (filed ≡ true → (length (now new) ≡ 20) × BlanksLast (pairs-in (now new))) ⌝ }
+    ensures { λ r. ⌜ r ≡ is-excepted (grounds-of g) service period reason (pairs-in (now (old .entry))) (pairs-in (now (new .entry))) ⌝ }
 {
-    if is_before_closure(clock, period) {
-        return false;
-    }
     if !is_admitted(g, service, period, reason) {
-        return true;
+        return false;
     }
     let before = pairs_to_walk(old, false);
     let after = pairs_to_walk(new, filed);
     if is_total_moved(reason, before, after) {
-        return !same_prices(before, after);
+        return same_prices(before, after);
     }
-    true
+    false
 }

@@ -1,12 +1,13 @@
 // The numbers that a call draws over the book's words, from 5 on: each reads its words where they stand.
 // What refusal 1 has tested of the words is asked of them; nothing is written.
 ghost use mathlib.Core.Path.{_≡_};
-ghost use mathlib.Core.Bool.{true, not};
+ghost use mathlib.Core.Bool.{true, false, not};
 ghost use Prim.Native.Nat.{_+_, _≤_, _<_};
 ghost use lib.ListN.{length};
 ghost use Rattle.offer_rules.specs.Numbers.{toNat, word};
 ghost use Rattle.offer_rules.specs.Time.{next-period};
 ghost use Rattle.offer_rules.specs.Offer.{pairs-in, pairs, all-blank, BlanksLast, offer-number};
+ghost use Rattle.offer_rules.specs.Gate.{is-open};
 ghost use Rattle.book_rules.specs.Words.{part, clock-place, limits-place, facility-place};
 ghost use Rattle.book_rules.specs.Force.{in-force, will-stand, pairs-of};
 ghost use Rattle.book_rules.specs.Refusals.{facility-number, gate-number, period-number, admission-number, revision-number, admitted-standing, grounds};
@@ -23,8 +24,8 @@ use cells::is_same_offer;
 use cells::pairs_of;
 use gate::Grounds;
 use gate::Window;
-use gate::gate_refuses;
 use gate::is_before_closure;
+use gate::is_excepted;
 use layout::cell;
 use layout::facility;
 use layout::head;
@@ -196,7 +197,7 @@ fn pairs_afterwards<'a>(
     pairs_of(book, standing)
 }
 
-// 17, with the pairs of old and new, of which it is told whether it is the filed offer or a held one.
+// 17 inside gate closure, with the pairs of old and new, of which it is told whether it is the filed offer or a held one.
 fn gate_number(
     book: &[i32],
     f: usize,
@@ -207,11 +208,10 @@ fn gate_number(
     new: &[i32],
     filed: bool,
 ) -> u8
-    requires { ⌜ Usable (now book) × (f < facilities-in (now book)) × (period < 2147483647) × (length (now old) ≤ 20) × (length (now new) ≤ 20) × (filed ≡ true → (length (now new) ≡ 20) × BlanksLast (pairs-in (now new))) ⌝ }
+    requires { ⌜ Usable (now book) × (f < facilities-in (now book)) × (period < 2147483647) × (length (now old) ≤ 20) × (length (now new) ≤ 20) × (filed ≡ true → (length (now new) ≡ 20) × BlanksLast (pairs-in (now new))) × (is-open (toNat (word (now book) clock-place)) period ≡ false) ⌝ }
     ensures { λ r. ⌜ (r ≡ gate-number (toNat (word (now (book .entry)) clock-place)) (grounds (book-view (now (book .entry))) f) service period reason (pairs-in (now (old .entry))) (pairs-in (now (new .entry)))) × (r ≤ 17) ⌝ }
 {
-    let refuses = gate_refuses(
-        clock(book),
+    let excepted = is_excepted(
         grounds_of(book, f),
         service,
         period as u64,
@@ -220,7 +220,7 @@ fn gate_number(
         new,
         filed,
     );
-    draw_if(refuses, refusal::GATE_CLOSED)
+    draw_if(!excepted, refusal::GATE_CLOSED)
 }
 
 // 17 of a variation, of which it is told whether its pairs are all blank. Before closure, where most are filed, no offer is looked up.

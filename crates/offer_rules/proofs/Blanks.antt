@@ -11,7 +11,7 @@ use lib.ListN.{length, take, drop}
 use borrow.Author.Tests.{eqb-true, lt-leb, leb-false}
 use Rattle.offer_rules.specs.Numbers.{eqZ, word, between, draw, _then_}
 use Rattle.offer_rules.specs.Offer.{Pair, pairs-in, pairs, is-blank, all-blank, filled-part, BlanksAfter, BlanksLast, sum-of, any-pair, out-of-range, is-priced-blank, blank-before-filled, blank-refused, non-blank-prices, rises, ramp-refused, proportion-refused, above-capacity, offer-number, NoneBeforeFilled, TestedBlanksLast}
-use Rattle.offer_rules.specs.Gate.{Grounds, tenths-of, total-tenths, price-of-tenth, same-prices-to, same-prices, gate-refuses}
+use Rattle.offer_rules.specs.Gate.{Grounds, tenths-of, total-tenths, price-of-tenth, same-prices-to, same-prices, is-excepted}
 use Rattle.offer_rules.proofs.Drawn.{and-left, and-right, or-left, or-right}
 use Rattle.offer_rules.proofs.Pairs.{pair-at, pairs-from, no-pairs-from}
 
@@ -153,13 +153,13 @@ module _ {first l : List Pair} (after : BlanksAfter first l) where
   tenths-of-first : total-tenths l ≡ total-tenths first
   tenths-of-first = ap total-tenths (after .followed) ∙ tenths-before (after .blanks) (after .only-blanks) first
 
-  pub gate-by-new : (now : ℕ) (g : Grounds) (s p reason : ℕ) (old : List Pair) → gate-refuses now g s p reason old l ≡ gate-refuses now g s p reason old first
-  unfolding gate-refuses same-prices
-  gate-by-new now g s p reason old = rw (tenths-of-first, after .followed, same-new-to (after .blanks) (after .only-blanks) old first (min (total-tenths old) (total-tenths first)))
+  pub excepted-by-new : (g : Grounds) (s p reason : ℕ) (old : List Pair) → is-excepted g s p reason old l ≡ is-excepted g s p reason old first
+  unfolding is-excepted same-prices
+  excepted-by-new g s p reason old = rw (tenths-of-first, after .followed, same-new-to (after .blanks) (after .only-blanks) old first (min (total-tenths old) (total-tenths first)))
 
-  pub gate-by-old : (now : ℕ) (g : Grounds) (s p reason : ℕ) (new : List Pair) → gate-refuses now g s p reason l new ≡ gate-refuses now g s p reason first new
-  unfolding gate-refuses same-prices
-  gate-by-old now g s p reason new = rw (tenths-of-first, after .followed, same-old-to (after .blanks) (after .only-blanks) first new (min (total-tenths first) (total-tenths new)))
+  pub excepted-by-old : (g : Grounds) (s p reason : ℕ) (new : List Pair) → is-excepted g s p reason l new ≡ is-excepted g s p reason first new
+  unfolding is-excepted same-prices
+  excepted-by-old g s p reason new = rw (tenths-of-first, after .followed, same-old-to (after .blanks) (after .only-blanks) first new (min (total-tenths first) (total-tenths new)))
 
 -- An offer's pairs are all blank where its first one is.
 pub first-tells : (x : Pair) (l : List Pair) → BlanksLast (x ∷ l) → all-blank (x ∷ l) ≡ is-blank x
