@@ -237,7 +237,10 @@ fn is_admitted(g: Grounds, service: u8, period: u64, reason: u8) -> bool
     requires { ⌜ period < 2147483648 ⌝ }
     ensures { λ r. ⌜ r ≡ ((admits (g .kind) reason && admits-service service reason) && period-covered (grounds-of g) period reason) ⌝ }
 {
-    if !(admits(g.kind, reason) & admits_service(service, reason)) {
+    if !admits(g.kind, reason) {
+        return false;
+    }
+    if !admits_service(service, reason) {
         return false;
     }
     is_period_covered(g, period, reason)

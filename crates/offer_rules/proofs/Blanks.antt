@@ -179,6 +179,7 @@ part-lent (p ∷ (q ∷ ws)) = go (is-blank x) (part-lent ws)
   where
     x : Pair
     x = record { price = p; quantity = q }
+
     go : (t : Bool) → pairs-in (take (2 * length (filled-part (pairs-in ws))) ws) ≡ filled-part (pairs-in ws)
         → pairs-in (take (2 * length (cond t [] (x ∷ filled-part (pairs-in ws)))) (p ∷ (q ∷ ws))) ≡ cond t [] (x ∷ filled-part (pairs-in ws))
     go true k = refl

@@ -61,9 +61,11 @@ loop-again c =
     let t : i < 10 = c .before .before .before .loop-test .taken in
     let b = c .before .is-blank in
     let e : eqZ (c .before .before .quantity-at .result .0) (pos 0) ≡ true = sym (b .ensures) ∙ not-false (b .result) (c .if2 .left) in
-    let k : 10 - i - 1 ≡ 10 - (i + 1) = omega arith in
-    (omega (arith, t), l .loop .inv .1,
-    rw k at (blank-before ws (10 - i) (omega (arith, t)) (omega (arith, l .loop .inv .1)) (ap (λ (q : Quantity). eqZ (q .0) (pos 0)) (sym (c .before .before .quantity-at .ensures)) ∙ e) (l .loop .inv .2)))
+    let k : 10 - i - 1 ≡ 10 - (i + 1) = omega arith in (
+      omega (arith, t),
+      l .loop .inv .1,
+      rw k at (blank-before ws (10 - i) (omega (arith, t)) (omega (arith, l .loop .inv .1)) (ap (λ (q : Quantity). eqZ (q .0) (pos 0)) (sym (c .before .before .quantity-at .ensures)) ∙ e) (l .loop .inv .2)),
+    )
 
 returns-3 : tie.Need-returns-3 Inv-loop μ-loop
 returns-3 c =

@@ -26,11 +26,12 @@ returns c =
     let s = c .before .before .before in
     let w = s .args .book .now in
     let e = c .before .is-excepted .ensures
-    ∙ ap (λ (g : Grounds). is-excepted g (s .args .service) (s .args .period) (s .args .reason) (pairs-in (s .args .old .now)) (pairs-in (s .args .new .now))) (c .before .before .grounds-of .ensures) in
-    (c .draw-if .ensures .0
-    ∙ ap (λ (t : Bool). draw (not t) 17) e
-    ∙ sym (shut-draws (toNat (word w clock-place)) (grounds (book-view w) (s .args .f)) (s .args .service) (s .args .period) (s .args .reason) (pairs-in (s .args .old .now)) (pairs-in (s .args .new .now)) (s .pre .6)),
-    c .draw-if .ensures .1)
+    ∙ ap (λ (g : Grounds). is-excepted g (s .args .service) (s .args .period) (s .args .reason) (pairs-in (s .args .old .now)) (pairs-in (s .args .new .now))) (c .before .before .grounds-of .ensures) in (
+      c .draw-if .ensures .0
+          ∙ ap (λ (t : Bool). draw (not t) 17) e
+          ∙ sym (shut-draws (toNat (word w clock-place)) (grounds (book-view w) (s .args .f)) (s .args .service) (s .args .period) (s .args .reason) (pairs-in (s .args .old .now)) (pairs-in (s .args .new .now)) (s .pre .6)),
+      c .draw-if .ensures .1,
+    )
 
 pub gate-number-spec : {M : Type 1} → statement M
 gate-number-spec =

@@ -56,9 +56,10 @@ returns-2 c =
     let empty = c .before .before .before .are-empty in
     let m : ℕ = cond (any-pair (pair-is-out (s .args .lowest) (s .args .highest)) (pairs-in (drop (2 * f .result .filled) (s .args .pairs .now)))) 11 12 in
     let n : c .refused-with2 .result .number ≡ m = c .refused-with2 .ensures ∙ b .ensures in
-    let e : all-empty (pairs-in (drop (2 * f .result .filled) (s .args .pairs .now))) ≡ false = sym (empty .ensures) ∙ not-true (empty .result) (c .before .before .if2 .taken) in
-    (n ∙ sym (draws-11-or-12 (s .args .lowest) (s .args .highest) (s .args .pairs .now) (f .result) (f .ensures) (c .before .before .before .before .before .if1 .left) e),
-    no-number (c .refused-with2 .result .number) m n (eleven-or-twelve (any-pair (pair-is-out (s .args .lowest) (s .args .highest)) (pairs-in (drop (2 * f .result .filled) (s .args .pairs .now))))))
+    let e : all-empty (pairs-in (drop (2 * f .result .filled) (s .args .pairs .now))) ≡ false = sym (empty .ensures) ∙ not-true (empty .result) (c .before .before .if2 .taken) in (
+      n ∙ sym (draws-11-or-12 (s .args .lowest) (s .args .highest) (s .args .pairs .now) (f .result) (f .ensures) (c .before .before .before .before .before .if1 .left) e),
+      no-number (c .refused-with2 .result .number) m n (eleven-or-twelve (any-pair (pair-is-out (s .args .lowest) (s .args .highest)) (pairs-in (drop (2 * f .result .filled) (s .args .pairs .now))))),
+    )
 
 refused-with-requires-3 : tie.Need-refused-with-requires-3
 refused-with-requires-3 c κs = search needs
