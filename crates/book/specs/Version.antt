@@ -3,4 +3,4 @@
 use Prim.Native.Nat.{ℕ}
 
 abbrev pub library-version : ℕ
-library-version = 10600
+library-version = 10700

@@ -67,7 +67,7 @@ pub fn call(book: &mut [i32], bytes: &[u8]) -> Answer
 }
 
 // 1.6.0, for C to hold against its header's.
-const LIBRARY_VERSION: u32 = 10600;
+const LIBRARY_VERSION: u32 = 10700;
 
 #[no_mangle]
 pub extern "C" fn bilzhaan_version() -> u32

@@ -12,17 +12,18 @@ use lib.ListN.{getD}
 use borrow.Author.Tests.{eqb-true, eqb-false, eq-eqb, ne-eqb}
 use Rattle.offer_rules.specs.Numbers.{toNat, draw, _then_}
 use Rattle.offer_rules.specs.Time.{next-period}
-use Rattle.offer_rules.specs.Offer.{pairs, Held, offer-number}
+use Rattle.offer_rules.specs.Offer.{pairs, Held, any-pair, is-priced-blank, blank-before-filled, blank-refused, offer-number}
 use Rattle.offer_rules.specs.Gate.{Grounds, gate-refuses}
 use Rattle.offer_rules.proofs.Periods.{next-is-one}
-use Rattle.offer_rules.proofs.Drawn.{or-false, then-eq, then-zero, draw-zero, then-assoc}
+use Rattle.offer_rules.proofs.Blanks.{none-before}
+use Rattle.offer_rules.proofs.Drawn.{or-right, or-false, then-eq, then-zero, draw-zero, then-assoc}
 use Rattle.book_rules.specs.Record.{period-word, offer-in, is-record, outside, has-stray, record-number}
 use Rattle.book_rules.specs.Words.{is-book}
 use Rattle.book_rules.specs.Force.{View, Answer, plain}
 use Rattle.book_rules.specs.Refusals.{judge, reply, clock-number, capability-number, facility-number, registration-number, admission-number, admitted-standing, admitted-variation, over-held, revision-number, gate-number, outage-number, notice-number, withdrawal-number, period-number, force-number, standing-number, variation-number, look-up-number, equal-words, number, answer, after}
 use Rattle.book_rules.specs.Book.{book-view, book-accept, book-answer, book-after}
 use Rattle.book_rules.specs.ByNumber.{of-held, own-gate, conditions-from-5, conditions, applies}
-use Rattle.book_rules.specs.Claims.{RefusedChangesNothing, AcceptedExactly, LowestThatApplies, RevisedAtNextPeriod}
+use Rattle.book_rules.specs.Claims.{RefusedChangesNothing, AcceptedExactly, LowestThatApplies, RevisedAtNextPeriod, OffersBlanksLast}
 use Rattle.book_rules.proofs.Calls.{Which, is-clock, is-capability, is-standing, is-variation, is-outage, is-notice, is-withdrawal, is-look-up, is-total, named, judge-clock, judge-capability, judge-standing, judge-variation, judge-outage, judge-notice, judge-withdrawal, judge-look-up, judge-total}
 use Rattle.book_rules.proofs.Striking.{reply-number}
 
@@ -218,3 +219,7 @@ revised-at-next-period w b call = (
       rw (call, held) (or-false (gate-at (next-period now (toNat (period-word b)))) ∙ ap gate-at (sym (next-is-one now (toNat (period-word b)) p next))),
   λ held. rw (call, held),
 )
+
+pub offers-blanks-last : OffersBlanksLast
+unfolding OffersBlanksLast applies conditions conditions-from-5 blank-refused
+offers-blanks-last w b offer passes = none-before (pairs (offer-in b)) (or-right (any-pair is-priced-blank (pairs (offer-in b))) (blank-before-filled (pairs (offer-in b))) (rw offer at passes))

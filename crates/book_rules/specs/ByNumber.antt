@@ -9,7 +9,7 @@ use lib.IntN.{ℤ}
 use lib.ListN.{getD}
 use Rattle.offer_rules.specs.Numbers.{toNat}
 use Rattle.offer_rules.specs.Time.{next-period, slot-refused, period-refused}
-use Rattle.offer_rules.specs.Offer.{Pair, pairs, Held, sum-of, any-pair, out-of-range, is-priced-blank, non-blank-prices, rises, ramp-refused, proportion-refused, above-capacity}
+use Rattle.offer_rules.specs.Offer.{Pair, pairs, Held, sum-of, out-of-range, blank-refused, non-blank-prices, rises, ramp-refused, proportion-refused, above-capacity}
 use Rattle.offer_rules.specs.Gate.{gate-refuses}
 use Rattle.book_rules.specs.Record.{call-of, facility-of, service-of, period-word, reason-of, word-A, word-B, capability-in, offer-in, is-record, outside, has-stray}
 use Rattle.book_rules.specs.Words.{is-book}
@@ -67,7 +67,7 @@ module _ (vw : View) (b : List ℕ) where
       ∷ (((is-call 3 b && slot-refused (period-word b)) || (((is-call 4 b || is-call 8 b) || is-call 9 b) && period-refused (vw .now) (period-word b)))
       -- 11 to 16 of an offer
       ∷ ((is-offer b && out-of-range (vw .limits) (service-of b) (reason-of b) (offer-in b))
-      ∷ ((is-offer b && any-pair is-priced-blank own-pairs)
+      ∷ ((is-offer b && blank-refused own-pairs)
       ∷ ((is-offer b && not (rises (non-blank-prices own-pairs)))
       ∷ ((is-offer b && ramp-refused own-capability (service-of b) (offer-in b))
       ∷ ((is-offer b && proportion-refused own-capability (service-of b) (offer-in b))

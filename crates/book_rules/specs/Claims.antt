@@ -10,13 +10,13 @@ use lib.IntN.{ℤ, pos}
 use lib.ListN.{length, drop}
 use Rattle.offer_rules.specs.Numbers.{toNat, between}
 use Rattle.offer_rules.specs.Time.{IsNext}
-use Rattle.offer_rules.specs.Offer.{pairs, Held, all-blank}
+use Rattle.offer_rules.specs.Offer.{pairs, Held, all-blank, BlanksLast}
 use Rattle.book_rules.specs.Record.{call-of, facility-of, service-of, period-word, offer-in, record-number}
 use Rattle.book_rules.specs.Words.{is-book, opening-number, opening-words}
 use Rattle.book_rules.specs.Force.{View, pairs-of, Answer, plain}
 use Rattle.book_rules.specs.Refusals.{judge, reply}
 use Rattle.book_rules.specs.Book.{facilities-in, services-in, now-in, book-view, book-accept, book-answer, book-after, book-answers, book-run}
-use Rattle.book_rules.specs.ByNumber.{own-force, own-held, own-gate, applies}
+use Rattle.book_rules.specs.ByNumber.{is-offer, own-force, own-held, own-gate, applies}
 use Rattle.book_rules.specs.ListMachine.{list-answers}
 
 -- Number 0.
@@ -53,6 +53,12 @@ RevisedAtNextPeriod = (w : List ℤ) (b : List ℕ) → call-of b ≡ 3
     → ((h : Held) (p : ℕ) → own-held (book-view w) b ≡ some h → IsNext (book-view w .now) (toNat (period-word b)) p
     → applies w b 17 ≡ own-gate (book-view w) b p (pairs (h .offer)) (pairs (offer-in b)))
     × (own-held (book-view w) b ≡ none → applies w b 17 ≡ false)
+
+-- ---- document 02: blank pairs
+
+-- "all non-blank pairs come first": in every offer that 12 does not apply to, and so in every one that is accepted, whatever the words.
+unfoldable pub OffersBlanksLast : Type 0
+OffersBlanksLast = (w : List ℤ) (b : List ℕ) → is-offer b ≡ true → applies w b 12 ≡ false → BlanksLast (pairs (offer-in b))
 
 -- ---- document 02: the minute of acceptance
 

@@ -1,5 +1,5 @@
--- The cases marked (p), and those of a variation taken back, of a link, of a fresh offer, of a slot's next period and of a standing offer in an outage, as one table with
--- one statement.
+-- The cases marked (p), and those of a variation taken back, of a link, of a fresh offer, of a slot's next period, of a standing offer in an outage and of blank pairs, as
+-- one table with one statement.
 use mathlib.Core.Path.{_≡_}
 use mathlib.Core.List.{List, [], _∷_, _++_}
 use Prim.Native.Nat.{ℕ, _+_}
@@ -11,7 +11,7 @@ use Rattle.offer_rules.specs.Offer.{Pair}
 use Rattle.book_rules.specs.Words.{part, put, facility-place, cell-place, standing-half, variation-half, standing-stamp, opening-words}
 use Rattle.book_rules.specs.Force.{Answer}
 use Rattle.book_rules.specs.Book.{book-answer, book-run}
-use Rattle.cases.specs.Records.{_at_, clock, capability-words, energy-mark, capability-of, capability, standing-for, standing, with-reason, ramping, variation, outage, notice, look-up-for, look-up, total}
+use Rattle.cases.specs.Records.{_at_, pair-words, clock, capability-words, energy-mark, capability-of, capability, standing-for, standing, with-reason, ramping, variation, outage, notice, look-up-for, look-up, total}
 
 -- "a book of 16,224 words, all zero before opening, F 1, S 1, energy −4,500.00 to 4,500.00, others to 4,500.00"
 abbrev pub limits : List ℤ
@@ -91,6 +91,10 @@ damaged-cell ramps minute = put opened-book (cell-place 1 1 0 0 standing-half 4)
 abbrev damaged-maximum : List ℤ
 damaged-maximum = put (book-run opened-book (plant ∷ [])) (facility-place 0 + 7) (pos 20000 ∷ [])
 
+-- The standing cell of slot 4 as only a host writes it, or an older library left it: 50.0 at 40.00, a blank, 20.0 at 50.00.
+abbrev holed-book : List ℤ
+holed-book = put opened-book (cell-place 1 1 0 0 standing-half 4) ((pos standing-stamp ∷ zeros 3) ++ pair-words (500 at 4000 ∷ (0 at 0 ∷ (200 at 5000 ∷ []))))
+
 -- Most rows start from the opened book: the calls before, the last call, its answer.
 abbrev row : List (List ℕ) → List ℕ → Line → Case
 row calls call line = record { book = opened-book; before = calls; last = call; answered = line }
@@ -107,6 +111,10 @@ over-stands calls reason offer = row ((plant ∷ (stands ∷ calls)) ++ tripped)
 abbrev added-to-stands : ℕ → ℕ → Line → Case
 added-to-stands period minute =
     row (plant ∷ (stands ∷ (notice 4 period period ∷ (clock minute ∷ [])))) (with-reason 4 (standing 4 (500 at 4000 ∷ (300 at 5000 ∷ []))))
+
+-- From that book, with its capability filed.
+abbrev holed : List (List ℕ) → List ℕ → Line → Case
+holed calls call line = record { book = holed-book; before = plant ∷ calls; last = call; answered = line }
 
 abbrev pub first-case : Case
 first-case = row (plant ∷ []) (standing 4 (1300 at 4000 ∷ [])) (draws 16)
@@ -139,8 +147,6 @@ cases =
     ∷ row (both ++ tripped) (blank 0) (draws 17)
     ∷ row (both ++ (tripped ++ (blank 2 ∷ []))) (look-up 4) (reads 0 1 700)
     ∷ row (varied ++ (tripped ++ (blank 2 ∷ []))) (look-up 4) (draws 19)
-    -- "blanks may stand anywhere": one blank pair before another is not all of them.
-    ∷ row (plant ∷ (stands ∷ (variation 4 0 (0 at 0 ∷ (300 at 4000 ∷ [])) ∷ []))) (look-up 4) (reads 0 4 300)
     -- What it is compared with is the standing offer: 30.0 at 45.00 against 40.00.
     ∷ row ((plant ∷ (stands ∷ (variation 4 0 (300 at 4500 ∷ []) ∷ []))) ++ tripped) (blank 2) (draws 17)
     -- "A blank standing offer still means zero MW": it is in force and counted.
@@ -232,6 +238,29 @@ cases =
     -- A link's: 4 is open to it, 1 is not.
     ∷ row (shut-for link) (with-reason 4 (standing 4 (500 at 4000 ∷ (300 at 5000 ∷ [])))) passes
     ∷ row (shut-for link) (with-reason 1 (standing 4 (500 at 4000 ∷ (300 at 5000 ∷ [])))) (draws 17)
+    -- 12 "also applies where a blank pair stands before a non-blank one": before the first, which is not all of them, and between two, where 13 would apply too; 11 comes first
+    ∷ row (plant ∷ []) (standing 4 (0 at 0 ∷ (300 at 4000 ∷ []))) (draws 12)
+    ∷ row both (variation 4 0 (0 at 0 ∷ (300 at 4000 ∷ []))) (draws 12)
+    ∷ row (plant ∷ []) (standing 4 (100 at 4000 ∷ (0 at 0 ∷ (100 at 5000 ∷ [])))) (draws 12)
+    ∷ row (plant ∷ []) (standing 4 (100 at 5000 ∷ (0 at 0 ∷ (100 at 4000 ∷ [])))) (draws 12)
+    ∷ row (plant ∷ []) (standing 4 (100 at 4000 ∷ (0 at 0 ∷ (100 at 450001 ∷ [])))) (draws 11)
+    -- "all non-blank pairs come first": blanks last pass, and so do blanks alone.
+    ∷ row (plant ∷ []) (standing 4 (500 at 4000 ∷ (200 at 5000 ∷ (0 at 0 ∷ (0 at 0 ∷ []))))) passes
+    ∷ row (plant ∷ []) (standing 4 (0 at 0 ∷ (0 at 0 ∷ []))) passes
+    ∷ row (plant ∷ []) (variation 4 0 (0 at 0 ∷ (0 at 0 ∷ []))) passes
+    -- "Offers already held are not tested again": one with a blank in its middle is shown, and equal to no offer that is filed.
+    ∷ holed [] (look-up 4) (reads 0 3 700)
+    ∷ holed [] stands passes
+    ∷ holed [] (standing 4 (500 at 4000 ∷ (0 at 0 ∷ (200 at 5000 ∷ [])))) (draws 12)
+    -- "A held offer .. is still walked to its last pair", as old: the 501st tenth comes after the blank, and so do 20.0 of its 70.0 MW
+    ∷ holed tripped (with-reason 2 (standing 4 (500 at 4000 ∷ (200 at 5000 ∷ [])))) passes
+    ∷ holed tripped (with-reason 2 (standing 4 (500 at 4000 ∷ (200 at 6000 ∷ [])))) (draws 17)
+    ∷ holed (notice 4 4 4 ∷ (clock 56 ∷ [])) (variation 4 4 (500 at 4000 ∷ (200 at 5000 ∷ []))) (draws 17)
+    ∷ holed (notice 4 4 4 ∷ (clock 56 ∷ [])) (variation 4 4 (500 at 4000 ∷ (201 at 5000 ∷ []))) passes
+    -- and as new, where a variation is taken back
+    ∷ holed (variation 4 0 (500 at 4000 ∷ (200 at 5000 ∷ [])) ∷ tripped) (blank 2) passes
+    ∷ holed (variation 4 0 (500 at 4000 ∷ (200 at 6000 ∷ [])) ∷ tripped) (blank 2) (draws 17)
+    ∷ holed (variation 4 0 (500 at 4000 ∷ (100 at 5000 ∷ [])) ∷ (notice 4 4 4 ∷ (clock 56 ∷ []))) (blank 4) passes
     ∷ []
 
 -- Every row of the table holds.

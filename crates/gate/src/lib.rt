@@ -1,20 +1,24 @@
 // Gate closure, refusal 17: prices compared tenth by tenth, and the reasons.
 // Offers are lent as their pairs' words: price, quantity, price, quantity ..
 ghost use mathlib.Core.Path.{_≡_};
+ghost use mathlib.Core.Bool.{true, _&&_};
 ghost use Prim.Native.Nat.{_+_, _-_, _*_, _≤_, _<_};
 ghost use lib.Dec.{ltb};
-ghost use lib.ListN.{length};
+ghost use lib.ListN.{length, drop};
 ghost use Rattle.offer_rules.specs.Numbers.{toNat, eqZ};
-ghost use Rattle.offer_rules.specs.Offer.{pairs-in};
-ghost use Rattle.offer_rules.specs.Gate.{total-tenths, same-prices, covers, is-open, admits-service, period-covered, total-moved, reason-holds, gate-refuses};
+ghost use Rattle.offer_rules.specs.Kinds.{admits};
+ghost use Rattle.offer_rules.specs.Offer.{pairs-in, all-blank, filled-part, BlanksAfter, BlanksLast};
+ghost use Rattle.offer_rules.specs.Gate.{total-tenths, same-prices, covers, is-open, admits-service, period-covered, total-moved, is-excepted};
 ghost use Rattle.gate.specs.Differing.{first-differing};
 ghost use Rattle.gate.specs.Merging.{left-of, alike, differ, merged};
 ghost use Rattle.gate.specs.Meaning.{window-of, grounds-of};
 use kinds::admits;
 use layout::facility;
+use layout::offer;
 use layout::time;
 use units::Price;
 use units::Quantity;
+use units::is_blank;
 use units::nat;
 use units::price_at;
 use units::quantity_at;
@@ -228,38 +232,87 @@ pub fn is_before_closure(clock: u64, period: u64) -> bool
     clock + time::GATE_CLOSURE_MINUTES <= time::PERIOD_MINUTES * period
 }
 
-// "Inside that it needs a reason".
-fn is_allowed(g: Grounds, service: u8, period: u64, reason: u8, old: &[i32], new: &[i32]) -> bool
-    requires { ⌜ (period < 2147483648) × (length (now old) ≤ 20) × (length (now new) ≤ 20) ⌝ }
-    ensures { λ r. ⌜ r ≡ reason-holds (grounds-of g) service period (total-tenths (pairs-in (now (old .entry)))) (total-tenths (pairs-in (now (new .entry)))) reason ⌝ }
+// "Inside that it needs a reason": what the one given asks of the kind, the service and the period.
+fn is_admitted(g: Grounds, service: u8, period: u64, reason: u8) -> bool
+    requires { ⌜ period < 2147483648 ⌝ }
+    ensures { λ r. ⌜ r ≡ ((admits (g .kind) reason && admits-service service reason) && period-covered (grounds-of g) period reason) ⌝ }
 {
-    if !(admits(g.kind, reason) & admits_service(service, reason)) {
+    if !admits(g.kind, reason) {
         return false;
     }
-    if !is_period_covered(g, period, reason) {
+    if !admits_service(service, reason) {
         return false;
     }
-    is_total_moved(reason, old, new)
+    is_period_covered(g, period, reason)
 }
 
-// 17, of a variation and of a standing offer over a held one; old holds no pairs where no offer is in force.
-pub fn gate_refuses(
-    clock: u64,
+// ---- how far an offer is walked
+
+// How many pairs stand before the first blank.
+fn filled_count(pairs: &[i32]) -> usize
+    requires { ⌜ length (now pairs) ≡ 20 ⌝ }
+    ensures { λ r. ⌜ (r ≡ length (filled-part (pairs-in (now (pairs .entry))))) × (r ≤ 10) ⌝ }
+{
+    for i in 0..offer::PAIR_COUNT {
+        if is_blank(quantity_at(pairs, 2 * i + 1)) {
+            return i;
+        }
+    }
+    offer::PAIR_COUNT
+}
+
+// How many pairs there are up to the last that isn't blank; where there are fewer than ten, all.
+fn count_to_last(pairs: &[i32]) -> usize
+    requires { ⌜ length (now pairs) ≤ 20 ⌝ }
+    ensures { λ r. ⌜ (2 * r ≤ length (now (pairs .entry))) × (all-blank (pairs-in (drop (2 * r) (now (pairs .entry)))) ≡ true) ⌝ }
+{
+    if pairs.len() < 2 * offer::PAIR_COUNT {
+        return pairs.len() / 2;
+    }
+    for i in 0..offer::PAIR_COUNT {
+        let n = offer::PAIR_COUNT - i;
+        if !is_blank(quantity_at(pairs, 2 * n - 1)) {
+            return n;
+        }
+    }
+    0
+}
+
+// The pairs to walk: of a filed offer those before its first blank, since "all non-blank pairs come first"; "A held offer, which may be older, is still walked to its
+// last pair", blank pairs among the others included.
+fn pairs_to_walk(pairs: &[i32], filed: bool) -> &[i32]
+    requires { ⌜ (length (now pairs) ≤ 20) × (filed ≡ true → (length (now pairs) ≡ 20) × BlanksLast (pairs-in (now pairs))) ⌝ }
+    ensures { λ r. ⌜ BlanksAfter (pairs-in (now r)) (pairs-in (now (pairs .entry))) × (length (now r) ≤ 20) ⌝ }
+{
+    if filed {
+        let end = 2 * filled_count(pairs);
+        return &pairs[0..end];
+    }
+    let end = 2 * count_to_last(pairs);
+    &pairs[0..end]
+}
+
+// Whether a filing inside gate closure is excepted, of a variation and of a standing offer over a held one; old holds no pairs where no offer is in force. New is the
+// filed one, or where a variation is taken back a held one, or none.
+pub fn is_excepted(
     g: Grounds,
     service: u8,
     period: u64,
     reason: u8,
     old: &[i32],
     new: &[i32],
+    filed: bool,
 ) -> bool
-    requires { ⌜ (clock ≤ 1000000000) × (period < 2147483648) × (length (now old) ≤ 20) × (length (now new) ≤ 20) ⌝ }
-    ensures { λ r. ⌜ r ≡ gate-refuses clock (grounds-of g) service period reason (pairs-in (now (old .entry))) (pairs-in (now (new .entry))) ⌝ }
+    requires { ⌜ (period < 2147483648) × (length (now old) ≤ 20) × (length (now new) ≤ 20) × (filed ≡ true → (length (now new) ≡ 20) × BlanksLast (pairs-in (now new))) ⌝ }
+    ensures { λ r. ⌜ r ≡ is-excepted (grounds-of g) service period reason (pairs-in (now (old .entry))) (pairs-in (now (new .entry))) ⌝ }
 {
-    if is_before_closure(clock, period) {
+    if !is_admitted(g, service, period, reason) {
         return false;
     }
-    if is_allowed(g, service, period, reason, old, new) {
-        return !same_prices(old, new);
+    let before = pairs_to_walk(old, false);
+    let after = pairs_to_walk(new, filed);
+    if is_total_moved(reason, before, after) {
+        return same_prices(before, after);
     }
-    true
+    false
 }

@@ -1,6 +1,6 @@
 -- What the code finds held and what will stand, as the rule has them; and the gate before closure.
 use mathlib.Core.Path.{_≡_, refl, ap}
-use mathlib.Core.Bool.{true, false, true≢false, false≢true}
+use mathlib.Core.Bool.{true, false, not, true≢false, false≢true}
 use mathlib.Core.List.{List}
 use mathlib.Core.Option.{Option, none, some}
 use Prim.Native.Nat.{ℕ}
@@ -9,7 +9,7 @@ use lib.IntN.{ℤ}
 use Rattle.offer_rules.specs.Numbers.{draw, _then_}
 use Rattle.offer_rules.specs.Time.{slot-of, next-period}
 use Rattle.offer_rules.specs.Offer.{Pair, pairs, Held, all-blank}
-use Rattle.offer_rules.specs.Gate.{Grounds, is-open, gate-refuses}
+use Rattle.offer_rules.specs.Gate.{Grounds, is-excepted, is-open, gate-refuses}
 use Rattle.book_rules.specs.Force.{View, first-of, variation-made, will-stand, pairs-of}
 use Rattle.book_rules.specs.Refusals.{gate-number, over-held, revision-number}
 use Rattle.cells.specs.declared.InForce as place
@@ -44,6 +44,11 @@ module _ (vw : View) (f s p : ℕ) (o : List ℤ) where
   pub standing-stands : all-blank (pairs o) ≡ true → will-stand vw f s p o ≡ first-of none (vw .standing f s (slot-of p))
   unfolding will-stand variation-made
   standing-stands h = rw h
+
+-- From closure on an offer draws 17 where it isn't excepted.
+pub shut-draws : (now : ℕ) (g : Grounds) (s p reason : ℕ) (old new : List Pair) → is-open now p ≡ false → gate-number now g s p reason old new ≡ draw (not (is-excepted g s p reason old new)) 17
+unfolding gate-number gate-refuses
+shut-draws now g s p reason old new h = rw h
 
 -- Before closure no offer draws 17, whatever old and new are.
 pub open-draws-none : (now : ℕ) (g : Grounds) (s p reason : ℕ) (old new : List Pair) → is-open now p ≡ true → gate-number now g s p reason old new ≡ 0

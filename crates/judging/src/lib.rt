@@ -1,11 +1,13 @@
 // The numbers that a call draws over the book's words, from 5 on: each reads its words where they stand.
 // What refusal 1 has tested of the words is asked of them; nothing is written.
 ghost use mathlib.Core.Path.{_≡_};
+ghost use mathlib.Core.Bool.{true, false, not};
 ghost use Prim.Native.Nat.{_+_, _≤_, _<_};
 ghost use lib.ListN.{length};
 ghost use Rattle.offer_rules.specs.Numbers.{toNat, word};
 ghost use Rattle.offer_rules.specs.Time.{next-period};
-ghost use Rattle.offer_rules.specs.Offer.{pairs-in, pairs, all-blank, offer-number};
+ghost use Rattle.offer_rules.specs.Offer.{pairs-in, pairs, all-blank, BlanksLast, offer-number};
+ghost use Rattle.offer_rules.specs.Gate.{is-open};
 ghost use Rattle.book_rules.specs.Words.{part, clock-place, limits-place, facility-place};
 ghost use Rattle.book_rules.specs.Force.{in-force, will-stand, pairs-of};
 ghost use Rattle.book_rules.specs.Refusals.{facility-number, gate-number, period-number, admission-number, revision-number, admitted-standing, grounds};
@@ -22,8 +24,8 @@ use cells::is_same_offer;
 use cells::pairs_of;
 use gate::Grounds;
 use gate::Window;
-use gate::gate_refuses;
 use gate::is_before_closure;
+use gate::is_excepted;
 use layout::cell;
 use layout::facility;
 use layout::head;
@@ -109,10 +111,10 @@ pub fn admission_number(book: &[i32], f: usize, service: u8, refused: bool) -> u
     )
 }
 
-// 11 to 16 of an offer, under the book's limits and the facility's capability.
+// 11 to 16 of an offer, under the book's limits and the facility's capability. Where none is drawn, "all non-blank pairs come first".
 pub fn offer_number(book: &[i32], f: usize, service: u8, reason: u8, offer: &[i32]) -> u8
     requires { ⌜ Usable (now book) × (f < facilities-in (now book)) × (service < services-in (now book)) × (length (now offer) ≡ 23) × UsesFive service (now offer) ⌝ }
-    ensures { λ r. ⌜ (r ≡ offer-number (part limits-place 6 (now (book .entry))) (part (facility-place f) 17 (now (book .entry))) service reason (now (offer .entry))) × (r ≤ 16) ⌝ }
+    ensures { λ r. ⌜ (r ≡ offer-number (part limits-place 6 (now (book .entry))) (part (facility-place f) 17 (now (book .entry))) service reason (now (offer .entry))) × (r ≤ 16) × (r ≡ 0 → BlanksLast (pairs (now (offer .entry)))) ⌝ }
 {
     offers::offer_number(
         &book[head::LIMITS..head::LIMITS_END],
@@ -178,8 +180,8 @@ fn pairs_afterwards<'a>(
     offer: &'a [i32],
     blank: bool,
 ) -> &'a [i32]
-    requires { ⌜ Usable (now book) × (f < facilities-in (now book)) × (service < services-in (now book)) × (length (now offer) ≡ 23) × (blank ≡ all-blank (pairs (now offer))) ⌝ }
-    ensures { λ r. ⌜ (pairs-in (now r) ≡ pairs-of (will-stand (book-view (now (book .entry))) f service period (now (offer .entry)))) × (length (now r) ≤ 20) ⌝ }
+    requires { ⌜ Usable (now book) × (f < facilities-in (now book)) × (service < services-in (now book)) × (length (now offer) ≡ 23) × BlanksLast (pairs (now offer)) × (blank ≡ all-blank (pairs (now offer))) ⌝ }
+    ensures { λ r. ⌜ (pairs-in (now r) ≡ pairs-of (will-stand (book-view (now (book .entry))) f service period (now (offer .entry)))) × (length (now r) ≤ 20) × (not blank ≡ true → (length (now r) ≡ 20) × BlanksLast (pairs-in (now r))) ⌝ }
 {
     if !blank {
         return &offer[offer::PAIRS..];
@@ -195,7 +197,7 @@ fn pairs_afterwards<'a>(
     pairs_of(book, standing)
 }
 
-// 17, with the pairs of old and new.
+// 17 inside gate closure, with the pairs of old and new, of which it is told whether it is the filed offer or a held one.
 fn gate_number(
     book: &[i32],
     f: usize,
@@ -204,20 +206,21 @@ fn gate_number(
     reason: u8,
     old: &[i32],
     new: &[i32],
+    filed: bool,
 ) -> u8
-    requires { ⌜ Usable (now book) × (f < facilities-in (now book)) × (period < 2147483647) × (length (now old) ≤ 20) × (length (now new) ≤ 20) ⌝ }
+    requires { ⌜ Usable (now book) × (f < facilities-in (now book)) × (period < 2147483647) × (length (now old) ≤ 20) × (length (now new) ≤ 20) × (filed ≡ true → (length (now new) ≡ 20) × BlanksLast (pairs-in (now new))) × (is-open (toNat (word (now book) clock-place)) period ≡ false) ⌝ }
     ensures { λ r. ⌜ (r ≡ gate-number (toNat (word (now (book .entry)) clock-place)) (grounds (book-view (now (book .entry))) f) service period reason (pairs-in (now (old .entry))) (pairs-in (now (new .entry)))) × (r ≤ 17) ⌝ }
 {
-    let refuses = gate_refuses(
-        clock(book),
+    let excepted = is_excepted(
         grounds_of(book, f),
         service,
         period as u64,
         reason,
         old,
         new,
+        filed,
     );
-    draw_if(refuses, refusal::GATE_CLOSED)
+    draw_if(!excepted, refusal::GATE_CLOSED)
 }
 
 // 17 of a variation, of which it is told whether its pairs are all blank. Before closure, where most are filed, no offer is looked up.
@@ -230,7 +233,7 @@ pub fn variation_gate_number<'a>(
     offer: &'a [i32],
     blank: bool,
 ) -> u8
-    requires { ⌜ Usable (now book) × (f < facilities-in (now book)) × (service < services-in (now book)) × (period < 2147483647) × (length (now offer) ≡ 23) × (blank ≡ all-blank (pairs (now offer))) ⌝ }
+    requires { ⌜ Usable (now book) × (f < facilities-in (now book)) × (service < services-in (now book)) × (period < 2147483647) × (length (now offer) ≡ 23) × BlanksLast (pairs (now offer)) × (blank ≡ all-blank (pairs (now offer))) ⌝ }
     ensures { λ r. ⌜ (r ≡ gate-number (toNat (word (now (book .entry)) clock-place)) (grounds (book-view (now (book .entry))) f) service period reason (pairs-of (in-force (book-view (now (book .entry))) f service period)) (pairs-of (will-stand (book-view (now (book .entry))) f service period (now (offer .entry))))) × (r ≤ 17) ⌝ }
 {
     if is_before_closure(clock(book), period as u64) {
@@ -238,7 +241,7 @@ pub fn variation_gate_number<'a>(
     }
     let old = pairs_before(book, f, service, period);
     let new = pairs_afterwards(book, f, service, period, offer, blank);
-    gate_number(book, f, service, period, reason, old, new)
+    gate_number(book, f, service, period, reason, old, new, !blank)
 }
 
 // ---- a standing offer over a held one
@@ -262,7 +265,7 @@ fn standing_gate_number(
     held: InForce,
     offer: &[i32],
 ) -> u8
-    requires { ⌜ Usable (now book) × (f < facilities-in (now book)) × (service < services-in (now book)) × (slot < 336) × (end-of held ≤ length (now book)) × (length (now offer) ≡ 23) ⌝ }
+    requires { ⌜ Usable (now book) × (f < facilities-in (now book)) × (service < services-in (now book)) × (slot < 336) × (end-of held ≤ length (now book)) × (length (now offer) ≡ 23) × BlanksLast (pairs (now offer)) ⌝ }
     ensures { λ r. ⌜ (r ≡ gate-number (toNat (word (now (book .entry)) clock-place)) (grounds (book-view (now (book .entry))) f) service (next-period (toNat (word (now (book .entry)) clock-place)) slot) reason (pairs-of (meaning (now (book .entry)) held)) (pairs (now (offer .entry)))) × (r ≤ 17) ⌝ }
 {
     let next = next_period(book, slot);
@@ -271,7 +274,7 @@ fn standing_gate_number(
     }
     let old = pairs_of(book, held);
     let new = &offer[offer::PAIRS..];
-    gate_number(book, f, service, next, reason, old, new)
+    gate_number(book, f, service, next, reason, old, new, true)
 }
 
 // 17, then 18 where it is equal to the held one. "A first one always passes the gate."
@@ -283,7 +286,7 @@ fn revision_number(
     reason: u8,
     offer: &[i32],
 ) -> u8
-    requires { ⌜ Usable (now book) × (f < facilities-in (now book)) × (service < services-in (now book)) × (slot < 336) × (length (now offer) ≡ 23) ⌝ }
+    requires { ⌜ Usable (now book) × (f < facilities-in (now book)) × (service < services-in (now book)) × (slot < 336) × (length (now offer) ≡ 23) × BlanksLast (pairs (now offer)) ⌝ }
     ensures { λ r. ⌜ (r ≡ revision-number (toNat (word (now (book .entry)) clock-place)) (grounds (book-view (now (book .entry))) f) service slot reason (book-view (now (book .entry)) .standing f service slot) (now (offer .entry))) × (r ≤ 18) ⌝ }
 {
     let held = held_standing(

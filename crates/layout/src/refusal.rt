@@ -33,8 +33,8 @@ pub const PERIOD_REFUSED: u8 = 10;
 // "reason above 6, quantity outside 0–99,999, price outside its limits"
 pub const OUT_OF_RANGE: u8 = 11;
 
-// "blank pair with a price"
-pub const PRICED_BLANK: u8 = 12;
+// "blank pair with a price", or one that "stands before a non-blank one"
+pub const BLANK_REFUSED: u8 = 12;
 
 // "prices of non-blank pairs not strictly rising"
 pub const PRICES_DONT_RISE: u8 = 13;

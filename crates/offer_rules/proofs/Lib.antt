@@ -3,4 +3,5 @@ pub mod Drawn
 pub mod Ranges
 pub mod Periods
 pub mod Pairs
+pub mod Blanks
 pub mod KindRows

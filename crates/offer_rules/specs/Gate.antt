@@ -68,6 +68,10 @@ total-moved reason old new = cond (eqb reason 3) (ltb new old) (cond (eqb reason
 unfoldable pub reason-holds : Grounds → ℕ → ℕ → ℕ → ℕ → ℕ → Bool
 reason-holds g s p old new reason = (admits (g .kind) reason && admits-service s reason) && (period-covered g p reason && total-moved reason old new)
 
+-- An exception to gate closure: a reason that holds, "Besides, for every n from 1 to the smaller total .. the same price in old and new".
+unfoldable pub is-excepted : Grounds → ℕ → ℕ → ℕ → List Pair → List Pair → Bool
+is-excepted g s p reason old new = reason-holds g s p (total-tenths old) (total-tenths new) reason && same-prices old new
+
 -- "A variation is open when 30·P − now is 65 or more."
 abbrev pub gate-minutes : ℕ
 gate-minutes = 65
@@ -78,5 +82,4 @@ is-open now p = leb (now + gate-minutes) (start-of p)
 -- 17, of a variation and of a standing offer over a held one: "The reasons and the tenth-by-tenth price condition are those of a variation" (document 02).
 -- Which p, old and new each is judged by is in book_rules, Refusals.
 unfoldable pub gate-refuses : ℕ → Grounds → ℕ → ℕ → ℕ → List Pair → List Pair → Bool
-gate-refuses now g s p reason old new =
-    not (is-open now p || (reason-holds g s p (total-tenths old) (total-tenths new) reason && same-prices old new))
+gate-refuses now g s p reason old new = not (is-open now p || is-excepted g s p reason old new)

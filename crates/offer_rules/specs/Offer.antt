@@ -1,6 +1,8 @@
 -- An offer, and refusals 11 to 16 (document 01, "Who draws which number", the coordinator's); 10 is in Time.
+use mathlib.Core.Path.{_≡_}
+use mathlib.Core.Logic.{_↔_}
 use mathlib.Core.Bool.{Bool, true, false, cond, not, _&&_, _||_}
-use mathlib.Core.List.{List, [], _∷_}
+use mathlib.Core.List.{List, [], _∷_, _++_}
 use Prim.Native.Nat.{ℕ, _+_}
 use lib.Dec.{ltb, eqb}
 use lib.IntN.{ℤ, pos, _+ℤ_}
@@ -40,7 +42,7 @@ pub record Held : Type 0 where
 abbrev pub accepted-at : ℕ → List ℤ → Held
 accepted-at now o = record { offer = o; minute = pos now }
 
--- "A pair with quantity 0 is blank, and blanks may stand anywhere."
+-- "A pair with quantity 0 is blank"; where blanks may stand is refusal 12.
 unfoldable pub is-blank : Pair → Bool
 is-blank x = eqZ (x .quantity) (pos 0)
 
@@ -48,6 +50,21 @@ is-blank x = eqZ (x .quantity) (pos 0)
 unfoldable pub all-blank : List Pair → Bool
 all-blank [] = true
 all-blank (x ∷ l) = is-blank x && all-blank l
+
+-- The pairs before the first blank.
+unfoldable pub filled-part : List Pair → List Pair
+filled-part [] = []
+filled-part (x ∷ l) = cond (is-blank x) [] (x ∷ filled-part l)
+
+-- Some first pairs of l, after which it has blanks alone.
+pub record BlanksAfter (first l : List Pair) : Type 0 where
+  pub blanks : List Pair
+  pub followed : l ≡ first ++ blanks
+  pub only-blanks : all-blank blanks ≡ true
+
+-- "all non-blank pairs come first" (document 02): a filled part followed by blanks.
+abbrev pub BlanksLast : List Pair → Type 0
+BlanksLast l = BlanksAfter (filled-part l) l
 
 -- The quantities added.
 unfoldable pub sum-of : List Pair → ℤ
@@ -115,6 +132,18 @@ out-of-range limits s reason o = ltb 6 reason || any-pair (pair-out-of-range lim
 unfoldable pub is-priced-blank : Pair → Bool
 is-priced-blank x = is-blank x && not (eqZ (x .price) (pos 0))
 
+-- 12 "also applies where a blank pair stands before a non-blank one" (document 02)
+unfoldable pub blank-before-filled : List Pair → Bool
+blank-before-filled [] = false
+blank-before-filled (x ∷ l) = (is-blank x && not (all-blank l)) || blank-before-filled l
+
+unfoldable pub blank-refused : List Pair → Bool
+blank-refused l = any-pair is-priced-blank l || blank-before-filled l
+
+-- What 12 leaves: in no pairs does a blank stand before a non-blank one exactly where all non-blank pairs come first. A claim; its proof is in proofs/Blanks.
+unfoldable pub NoneBeforeFilled : Type 0
+NoneBeforeFilled = (l : List Pair) → (blank-before-filled l ≡ false) ↔ BlanksLast l
+
 -- 13 "prices of non-blank pairs not strictly rising"
 unfoldable pub non-blank-prices : List Pair → List ℤ
 non-blank-prices [] = []
@@ -147,8 +176,14 @@ above-capacity c s total = cond (is-energy s) (ltZ (max-generation c) total || l
 unfoldable pub offer-number : List ℤ → List ℤ → ℕ → ℕ → List ℤ → ℕ
 offer-number limits c s reason o =
     draw (out-of-range limits s reason o) 11
-    then draw (any-pair is-priced-blank (pairs o)) 12
+    then draw (blank-refused (pairs o)) 12
     then draw (not (rises (non-blank-prices (pairs o)))) 13
     then draw (ramp-refused c s o) 14
     then draw (proportion-refused c s o) 15
     then draw (above-capacity c s (sum-of (pairs o))) 16
+
+-- "The test of one offer's pairs then promises more" (document 02): of an offer that draws none of 11 to 16, or one above 12. A claim; its proof is in proofs/Blanks.
+unfoldable pub TestedBlanksLast : Type 0
+TestedBlanksLast = (limits c : List ℤ) (s reason : ℕ) (o : List ℤ)
+    → let n = offer-number limits c s reason o in
+    between 11 12 n ≡ false → BlanksLast (pairs o)

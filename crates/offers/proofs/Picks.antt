@@ -4,73 +4,74 @@ use mathlib.Core.Bool.{Bool, true, false, not, cond, _||_}
 use mathlib.Core.List.{List}
 use Prim.Native.Nat.{ℕ, _≤_}
 use native.Mathlib.Omega.{arith}
-use lib.Dec.{ltb}
+use lib.Dec.{ltb, eqb}
 use lib.IntN.{ℤ}
 use Rattle.offer_rules.specs.Numbers.{draw, _then_}
-use Rattle.offer_rules.specs.Offer.{pairs, sum-of, lowest-price, highest-price, any-pair, out-of-range, is-priced-blank, non-blank-prices, rises, ramp-refused, proportion-refused, above-capacity, offer-number}
-use Rattle.offer_rules.proofs.Drawn.{or-right}
+use Rattle.offer_rules.specs.Offer.{pairs, sum-of, lowest-price, highest-price, any-pair, pair-out-of-range, out-of-range, blank-refused, non-blank-prices, rises, ramp-refused, proportion-refused, above-capacity, offer-number}
 use Rattle.units.specs.Typed.{price-of}
-use Rattle.offers.specs.declared.pairs.Findings.{Findings}
-use Rattle.offers.specs.PairTests.{found-in}
-use Rattle.offers.proofs.Walks.{found-out-of-range-is, found-are}
+use Rattle.units.proofs.Chains.{then-none, then-drawn}
+use Rattle.offers.specs.PairTests.{pairs-number}
 
-abbrev six-picked : Bool → Bool → Bool → Bool → Bool → Bool → ℕ
-six-picked a b c d e f = cond a 11 (cond b 12 (cond c 13 (cond d 14 (cond e 15 (cond f 16 0)))))
+module _ (limits c : List ℤ) (s reason : ℕ) (o : List ℤ) where
+  -- 11 to 13 of the pairs, and 14 to 16
+  abbrev pub of-pairs : ℕ
+  of-pairs = pairs-number (price-of (lowest-price limits s)) (price-of (highest-price limits s)) (pairs o)
 
-six-drawn : (a b c d e f : Bool) → (draw a 11 then draw b 12 then draw c 13 then draw d 14 then draw e 15 then draw f 16) ≡ six-picked a b c d e f
-unfolding draw _then_
-six-drawn true b c d e f = refl
-six-drawn false true c d e f = refl
-six-drawn false false true d e f = refl
-six-drawn false false false true e f = refl
-six-drawn false false false false true f = refl
-six-drawn false false false false false true = refl
-six-drawn false false false false false false = refl
+  abbrev of-capability : ℕ
+  of-capability = draw (ramp-refused c s o) 14 then draw (proportion-refused c s o) 15 then draw (above-capacity c s (sum-of (pairs o))) 16
 
--- 11 to 16
-pub number-picked : (limits c : List ℤ) (s reason : ℕ) (o : List ℤ) → offer-number limits c s reason o
-    ≡ six-picked (out-of-range limits s reason o) (any-pair is-priced-blank (pairs o)) (not (rises (non-blank-prices (pairs o)))) (ramp-refused c s o) (proportion-refused c s o) (above-capacity c s (sum-of (pairs o)))
-unfolding offer-number
-number-picked limits c s reason o =
-    six-drawn (out-of-range limits s reason o) (any-pair is-priced-blank (pairs o)) (not (rises (non-blank-prices (pairs o)))) (ramp-refused c s o) (proportion-refused c s o) (above-capacity c s (sum-of (pairs o)))
+  pub reason-draws : ltb 6 reason ≡ true → offer-number limits c s reason o ≡ 11
+  unfolding offer-number out-of-range draw _then_
+  reason-draws h = rw h
 
--- 11 to 16 as the walk through the pairs tells them apart
-abbrev pub five-picked : Bool → Bool → Bool → Bool → Bool → ℕ
-five-picked b c d e f = cond b 12 (cond c 13 (cond d 14 (cond e 15 (cond f 16 0))))
+  parted : (a b d : Bool) (m : ℕ) → (draw a 11 then draw b 12 then draw d 13 then m) ≡ ((draw a 11 then draw b 12 then draw d 13) then m)
+  unfolding draw _then_
+  parted true b d m = refl
+  parted false true d m = refl
+  parted false false true m = refl
+  parted false false false m = refl
 
-module _ (limits c : List ℤ) (s reason : ℕ) (o : List ℤ) (f : Findings)
-    (is-found : f ≡ found-in (price-of (lowest-price limits s)) (price-of (highest-price limits s)) (pairs o)) where
-  range-found : (ltb 6 reason || f .«out_of_range») ≡ out-of-range limits s reason o
-  unfolding out-of-range
-  range-found = ap (λ (t : Bool). ltb 6 reason || t) (ap (λ (g : Findings). g .«out_of_range») is-found ∙ found-out-of-range-is limits s (pairs o))
+  in-order : ltb 6 reason ≡ false → offer-number limits c s reason o ≡ (of-pairs then of-capability)
+  unfolding offer-number out-of-range pair-out-of-range pairs-number
+  in-order h =
+      rw h (parted (any-pair (pair-out-of-range limits s) (pairs o)) (blank-refused (pairs o)) (not (rises (non-blank-prices (pairs o)))) of-capability)
 
-  pub eleven-found : (ltb 6 reason || f .«out_of_range») ≡ true → offer-number limits c s reason o ≡ 11
-  eleven-found h = number-picked limits c s reason o ∙ rw (← range-found, h)
+  pub pairs-draw : ltb 6 reason ≡ false → (n : ℕ) → n ≡ of-pairs → (n ≡ 0 → ⊥) → offer-number limits c s reason o ≡ n
+  pairs-draw h n e k = in-order h ∙ then-drawn of-pairs of-capability (λ z. k (e ∙ z)) ∙ sym e
 
-  pub number-found : (ltb 6 reason || f .«out_of_range») ≡ false
-      → offer-number limits c s reason o ≡ five-picked (f .priced) (not (f .rises)) (ramp-refused c s o) (proportion-refused c s o) (above-capacity c s (f .total .0))
-  number-found h =
-      let k = found-are limits s (pairs o) (ap (λ (g : Findings). g .«out_of_range») (sym is-found) ∙ or-right (ltb 6 reason) (f .«out_of_range») h) in
-      number-picked limits c s reason o
-      ∙ rw (
-        ← range-found,
-        h,
-        ← k .0,
-        ← k .1,
-        ← k .2,
-        is-found,
-      )
+  abbrev three-picked : Bool → Bool → Bool → ℕ
+  three-picked d e f = cond d 14 (cond e 15 (cond f 16 0))
 
-pick-at-most : (t : Bool) {n m k : ℕ} → n ≤ k → m ≤ k → cond t n m ≤ k
-pick-at-most true h g = h
-pick-at-most false h g = g
+  three-drawn : (d e f : Bool) → (draw d 14 then draw e 15 then draw f 16) ≡ three-picked d e f
+  unfolding draw _then_
+  three-drawn true e f = refl
+  three-drawn false true f = refl
+  three-drawn false false true = refl
+  three-drawn false false false = refl
 
-six-at-most : (a b c d e f : Bool) → six-picked a b c d e f ≤ 16
-six-at-most a b c d e f =
-    pick-at-most a (omega arith)
-    (pick-at-most b (omega arith) (pick-at-most c (omega arith) (pick-at-most d (omega arith) (pick-at-most e (omega arith) (pick-at-most f (omega arith) (omega arith))))))
+  pub capability-draws : ltb 6 reason ≡ false → of-pairs ≡ 0
+      → offer-number limits c s reason o ≡ three-picked (ramp-refused c s o) (proportion-refused c s o) (above-capacity c s (sum-of (pairs o)))
+  capability-draws h z = in-order h ∙ then-none of-pairs of-capability z ∙ three-drawn (ramp-refused c s o) (proportion-refused c s o) (above-capacity c s (sum-of (pairs o)))
+
+-- ---- none is above 16
+
+draw-at-most : (t : Bool) (n : ℕ) → n ≤ 16 → draw t n ≤ 16
+unfolding draw
+draw-at-most true n h = h
+draw-at-most false n h = omega arith
+
+then-at-most : (n m : ℕ) → n ≤ 16 → m ≤ 16 → (n then m) ≤ 16
+unfolding _then_
+then-at-most n m h k = go (eqb n 0)
+  where
+    go : (t : Bool) → cond t m n ≤ 16
+    go true = k
+    go false = h
 
 pub number-at-most : (limits c : List ℤ) (s reason : ℕ) (o : List ℤ) → offer-number limits c s reason o ≤ 16
+unfolding offer-number
 number-at-most limits c s reason o =
-    rw (number-picked limits c s reason o)
-    (six-at-most (out-of-range limits s reason o) (any-pair is-priced-blank (pairs o)) (not (rises (non-blank-prices (pairs o)))) (ramp-refused c s o) (proportion-refused c s o) (above-capacity c s (sum-of (pairs o))))
+    then-at-most _ _ (draw-at-most _ 11 (omega arith))
+    (then-at-most _ _ (draw-at-most _ 12 (omega arith))
+    (then-at-most _ _ (draw-at-most _ 13 (omega arith))
+    (then-at-most _ _ (draw-at-most _ 14 (omega arith)) (then-at-most _ _ (draw-at-most _ 15 (omega arith)) (draw-at-most _ 16 (omega arith))))))

@@ -41,6 +41,9 @@ pub fn is_ramp_refused(capability: &[i32], service: u8, offer: &[i32]) -> bool
     requires { ⌜ (length (now capability) ≡ 17) × (length (now offer) ≡ 23) ⌝ }
     ensures { λ r. ⌜ r ≡ ramp-refused (now (capability .entry)) service (now (offer .entry)) ⌝ }
 {
+    if service != facility::ENERGY {
+        return false;
+    }
     let up = is_ramp_beyond(
         ramp_at(capability, facility::MAX_RAMP_UP),
         ramp_at(offer, offer::RAMP_UP),
@@ -49,7 +52,7 @@ pub fn is_ramp_refused(capability: &[i32], service: u8, offer: &[i32]) -> bool
         ramp_at(capability, facility::MAX_RAMP_DOWN),
         ramp_at(offer, offer::RAMP_DOWN),
     );
-    (service == facility::ENERGY) & (up | down)
+    up | down
 }
 
 // ---- 15: the proportion of generation reserve

@@ -4,7 +4,7 @@ ghost use mathlib.Core.Path.{_≡_};
 ghost use Prim.Native.Nat.{_≤_};
 ghost use lib.ListN.{length};
 ghost use Rattle.offer_rules.specs.Time.{slot-refused, period-refused};
-ghost use Rattle.offer_rules.specs.Offer.{offer-number};
+ghost use Rattle.offer_rules.specs.Offer.{pairs, BlanksLast, offer-number};
 ghost use Rattle.offers.specs.PairTests.{UsesFive};
 
 mod capability;
@@ -16,8 +16,8 @@ use capability::is_ramp_refused;
 use layout::fields;
 use layout::refusal;
 use layout::time;
-use pairs::findings_of;
 pub use pairs::is_all_blank;
+use pairs::judge_offer;
 pub use pairs::sum_of;
 use units::first;
 use units::is_beyond;
@@ -43,7 +43,7 @@ pub fn is_period_refused(clock: u64, period: i32) -> bool
 
 // ---- 11 to 16
 
-// Returns at the first that applies.
+// Returns at the first that applies. Where none does, "all non-blank pairs come first".
 pub fn offer_number(
     limits: &[i32],
     capability: &[i32],
@@ -52,17 +52,14 @@ pub fn offer_number(
     offer: &[i32],
 ) -> u8
     requires { ⌜ (length (now limits) ≡ 6) × (length (now capability) ≡ 17) × (service ≤ 4) × (length (now offer) ≡ 23) × UsesFive service (now offer) ⌝ }
-    ensures { λ r. ⌜ (r ≡ offer-number (now (limits .entry)) (now (capability .entry)) service reason (now (offer .entry))) × (r ≤ 16) ⌝ }
+    ensures { λ r. ⌜ (r ≡ offer-number (now (limits .entry)) (now (capability .entry)) service reason (now (offer .entry))) × (r ≤ 16) × (r ≡ 0 → BlanksLast (pairs (now (offer .entry)))) ⌝ }
 {
-    let f = findings_of(limits, service, offer);
-    if (fields::LOAD_OUTAGE < reason) | f.out_of_range {
+    if fields::LOAD_OUTAGE < reason {
         return refusal::OUT_OF_RANGE;
     }
-    if f.priced {
-        return refusal::PRICED_BLANK;
-    }
-    if !f.rises {
-        return refusal::PRICES_DONT_RISE;
+    let judged = judge_offer(limits, service, offer);
+    if judged.number != 0 {
+        return judged.number;
     }
     if is_ramp_refused(capability, service, offer) {
         return refusal::RAMP_REFUSED;
@@ -70,8 +67,9 @@ pub fn offer_number(
     if is_proportion_refused(capability, service, offer) {
         return refusal::PROPORTION_REFUSED;
     }
+    let total = judged.total;
     first(
-        is_above_capacity(capability, service, f.total),
+        is_above_capacity(capability, service, total),
         refusal::ABOVE_CAPACITY,
         0,
     )

@@ -13,6 +13,13 @@ pub struct Price(pub i32);
 // Whole tenths of a MW.
 pub struct Quantity(pub i32);
 
+// "A pair with quantity 0 is blank"
+pub fn is_blank(quantity: Quantity) -> bool
+    ensures { λ r. ⌜ r ≡ eqZ (quantity .0) (pos 0) ⌝ }
+{
+    is_zero(quantity.0)
+}
+
 pub fn price_at(words: &[i32], at: usize) -> Price
     requires { ⌜ at < length (now words) ⌝ }
     ensures { λ r. ⌜ r ≡ price-of (getD (now (words .entry)) at (pos 0)) ⌝ }

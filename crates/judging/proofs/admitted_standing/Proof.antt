@@ -18,7 +18,7 @@ returns c =
     (x .ensures .0 ∙ sym (then-drawn _ _ (λ z. c .if1 .taken (x .ensures .0 ∙ z))), omega (arith, x .ensures .1))
 
 revision-number-requires : tie.Need-revision-number-requires
-revision-number-requires c κs = search needs
+revision-number-requires c κs = let promised = c .before .offer-number .ensures .2 (c .if1 .left) in search needs
 
 returns-2 : tie.Need-returns-2
 unfolding admitted-standing book-view

@@ -26,7 +26,7 @@ returns : tie.Need-returns
 returns c =
     let s = c .before .before .before in
     let e = ap₂ (λ (l x : List ℤ). offer-number l x (s .args .service) (s .args .reason) (s .args .offer .now)) (lent 11 6 17 (s .args .book .now) refl) (c .before .capability .ensures .0) in
-    (c .offer-number .ensures .0 ∙ e, c .offer-number .ensures .1)
+    (c .offer-number .ensures .0 ∙ e, c .offer-number .ensures .1, c .offer-number .ensures .2)
 
 pub offer-number-spec : {M : Type 1} → statement M
 offer-number-spec =

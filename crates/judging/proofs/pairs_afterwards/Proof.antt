@@ -2,7 +2,7 @@ use borrow.Author.Needs.{needs}
 use Rattle.judging.proofs.pairs_afterwards.Statement.{statement}
 use Rattle.judging.proofs.pairs_afterwards.Tie as tie
 use mathlib.Core.Path.{_≡_, sym, _∙_, ap}
-use mathlib.Core.Bool.{true, false}
+use mathlib.Core.Bool.{true, false, false≢true}
 use mathlib.Core.Option.{none}
 use Prim.Native.Nat.{ℕ}
 use native.Mathlib.Omega.{arith}
@@ -27,8 +27,8 @@ returns : tie.Need-returns
 returns c =
     let s = c .before .before in
     let o = s .args .offer .now in
-    let e : all-blank (pairs o) ≡ false = sym (s .pre .4) ∙ not-true (s .args .blank) (c .before .if1 .taken) in
-    (pairs-lent o ∙ sym (sent-stands (book-view (s .args .book .now)) (s .args .f) (s .args .service) (s .args .period) o e), search needs)
+    let e : all-blank (pairs o) ≡ false = sym (s .pre .5) ∙ not-true (s .args .blank) (c .before .if1 .taken) in
+    (pairs-lent o ∙ sym (sent-stands (book-view (s .args .book .now)) (s .args .f) (s .args .service) (s .args .period) o e), search needs, λ _. (search needs, rw (pairs-lent o) (s .pre .4)))
 
 facilities-requires : tie.Need-facilities-requires
 facilities-requires c κs = search needs
@@ -52,10 +52,10 @@ returns-2 c =
     let s = c .before .before .before .before .before .before in
     let w = s .args .book .now in
     let o = s .args .offer .now in
-    let e : all-blank (pairs o) ≡ true = sym (s .pre .4) ∙ not-false (s .args .blank) (c .before .before .before .before .before .if1 .left) in
+    let e : all-blank (pairs o) ≡ true = sym (s .pre .5) ∙ not-false (s .args .blank) (c .before .before .before .before .before .if1 .left) in
     let held = c .before .held-standing .ensures .0
     ∙ ap (λ (n : ℕ). first-of none (book-view w .standing (s .args .f) n (slot-of (s .args .period)))) (c .before .before .wide .ensures) in
-    (c .pairs-of .ensures .0 ∙ ap pairs-of (held ∙ sym (standing-stands (book-view w) (s .args .f) (s .args .service) (s .args .period) o e)), c .pairs-of .ensures .1)
+    (c .pairs-of .ensures .0 ∙ ap pairs-of (held ∙ sym (standing-stands (book-view w) (s .args .f) (s .args .service) (s .args .period) o e)), c .pairs-of .ensures .1, λ is-filed. absurd (false≢true (sym (c .before .before .before .before .before .if1 .left) ∙ is-filed)))
 
 pub pairs-afterwards-spec : {M : Type 1} → statement M
 pairs-afterwards-spec =

@@ -1,6 +1,7 @@
 -- standing_gate_number: the gate at the slot's next period, which compares nothing before closure.
-use mathlib.Core.Path.{_≡_, sym, _∙_, ap₂}
-use mathlib.Core.Bool.{true}
+use mathlib.Core.Path.{_≡_, sym, _∙_, ap, ap₂}
+use mathlib.Core.Bool.{true, false}
+use Prim.Native.Nat.{ℕ}
 use native.Mathlib.Omega.{arith}
 use Rattle.offer_rules.specs.Numbers.{toNat, word}
 use Rattle.offer_rules.specs.Time.{next-period}
@@ -45,7 +46,12 @@ part-new-end : tie.Need-part-new-end
 part-new-end c = search needs
 
 gate-number-requires : tie.Need-gate-number-requires
-gate-number-requires c κs = search needs
+gate-number-requires c κs =
+    let s = c .before .before .before .before .before .before in
+    let next = c .before .before .before .before .before .next-period .result in
+    let shut : is-open (toNat (word (s .args .book .now) clock-place)) next ≡ false =
+    sym (c .before .before .before .is-before-closure .ensures ∙ ap (λ (n : ℕ). is-open n next) (c .before .before .before .before .clock .ensures .0)) ∙ c .before .before .if1 .left in
+    (search needs, search needs, search needs, search needs, search needs, λ _. (search needs, rw (pairs-lent (s .args .offer .now)) (s .pre .6)), shut)
 
 returns-2 : tie.Need-returns-2
 returns-2 c =

@@ -2,7 +2,7 @@ use borrow.Author.Needs.{needs}
 use Rattle.judging.proofs.variation_gate_number.Statement.{statement}
 use Rattle.judging.proofs.variation_gate_number.Tie as tie
 use mathlib.Core.Path.{_≡_, sym, _∙_, ap, ap₂}
-use mathlib.Core.Bool.{true}
+use mathlib.Core.Bool.{true, false}
 use mathlib.Core.List.{List}
 use Prim.Native.Nat.{ℕ}
 use native.Mathlib.Omega.{arith}
@@ -36,7 +36,12 @@ pairs-afterwards-requires : tie.Need-pairs-afterwards-requires
 pairs-afterwards-requires c κs = search needs
 
 gate-number-requires : tie.Need-gate-number-requires
-gate-number-requires c κs = search needs
+gate-number-requires c κs =
+    let s = c .before .before .before .before .before in
+    let p = s .args .period in
+    let shut : is-open (toNat (word (s .args .book .now) clock-place)) p ≡ false =
+    sym (c .before .before .before .is-before-closure .ensures ∙ ap (λ (n : ℕ). is-open n p) (c .before .before .before .before .clock .ensures .0)) ∙ c .before .before .if1 .left in
+    search needs
 
 returns-2 : tie.Need-returns-2
 returns-2 c =

@@ -9,8 +9,9 @@ use mir.Syntax.{w32}
 use mir.Facts.{toZ-ofZ}
 use borrow.Author.Tests.{ne-eqb}
 use Rattle.offer_rules.specs.Numbers.{toNat, word}
+use Rattle.offer_rules.specs.Offer.{pairs, BlanksLast}
 use Rattle.offer_rules.proofs.Periods.{period-is}
-use Rattle.book_rules.specs.Record.{service-of, period-word}
+use Rattle.book_rules.specs.Record.{service-of, period-word, offer-in}
 use Rattle.book_rules.specs.Words.{clock-place}
 use Rattle.book_rules.specs.Book.{file-variation}
 use Rattle.book_rules.proofs.Calls.{length-offer}
@@ -86,11 +87,15 @@ returns c =
     let x = judged w b (s .pre .place .tested) _ _ (variation-parts w b call) 4 call (omega arith) (s .pre .is-admitted) n (drawn-by-offer w b n (offer-drawn d) (c .if1 .taken)) _ (sym (accept-variation w b call)) in
     rw (ne-eqb n 0 (c .if1 .taken)) at x
 
+-- What the test of the pairs promises.
+promised : (c : tie.Else1) → BlanksLast (pairs (offer-in (c .before .before .before .before .before .before .before .before .before .before .before .before .before .before .args .bytes .now)))
+promised c = rw (c .before .before .before .before .before .read-offer .ensures) at (c .before .offer-number .ensures .2 (c .if1 .left))
+
 slice-aggregate-is-all-blank : tie.Need-slice-aggregate-is-all-blank
 slice-aggregate-is-all-blank c = search needs
 
 is-all-blank-requires : tie.Need-is-all-blank-requires
-is-all-blank-requires c κs = rw (c .before .before .before .before .before .before .read-offer .ensures) (length-offer (c .before .before .before .before .before .before .before .before .before .before .before .before .before .before .before .args .bytes .now))
+is-all-blank-requires c κs = rw (c .before .before .before .before .before .before .read-offer .ensures) (length-offer (c .before .before .before .before .before .before .before .before .before .before .before .before .before .before .before .args .bytes .now), promised (c .before))
 
 slice-aggregate-variation-gate-number : tie.Need-slice-aggregate-variation-gate-number
 slice-aggregate-variation-gate-number c = search needs
@@ -100,7 +105,7 @@ variation-gate-number-requires c κs =
     let s = c .before .before .before .before .before .before .before .before .before .before .before .before .before .before .before .before .before .before in
     let b = c .before .before in
     rw (b .is-all-blank .ensures, c .before .before .before .before .before .before .before .before .before .before .before .before .before .before .before .wide .ensures, count (c .before .before .before .before .before .before .before .before .before .before .before .before), c .before .before .before .before .before .before .before .before .before .read-offer .ensures)
-    (s .pre .place .tested .usable, s .pre .place .facility-in, s .pre .place .service-in, omega (arith, period-in s), length-offer (s .args .bytes .now), refl)
+    (s .pre .place .tested .usable, s .pre .place .facility-in, s .pre .place .service-in, omega (arith, period-in s), length-offer (s .args .bytes .now), promised (c .before .before .before .before), refl)
 
 slice-aggregate-file-variation : tie.Need-slice-aggregate-file-variation
 slice-aggregate-file-variation c = search needs

@@ -1,24 +1,25 @@
-use borrow.Author.Needs.{needs}
+-- The first pair tells.
 use mathlib.Core.Path.{ap, _∙_}
-use Rattle.offer_rules.specs.Offer.{all-blank}
-use Rattle.offers.proofs.Pairing.{pairs-lent}
+use borrow.Author.Needs.{needs}
+use Rattle.offers.specs.PairTests.{blank}
+use Rattle.offers.proofs.Pairing.{told-by-first}
 use Rattle.offers.proofs.pairs.is_all_blank.Statement.{statement}
 use Rattle.offers.proofs.pairs.is_all_blank.Tie as tie
 
-sub-all-blank : tie.Need-sub-all-blank
-sub-all-blank c = search needs
+add-quantity-at : tie.Need-add-quantity-at
+add-quantity-at c = search needs
 
-part-all-blank-start : tie.Need-part-all-blank-start
-part-all-blank-start c = search needs
+quantity-at-requires : tie.Need-quantity-at-requires
+quantity-at-requires c κs = search needs
 
-part-all-blank-end : tie.Need-part-all-blank-end
-part-all-blank-end c = search needs
-
-all-blank-requires : tie.Need-all-blank-requires
-all-blank-requires c κs = search needs
+is-blank-requires : tie.Need-is-blank-requires
+is-blank-requires c κs = search needs
 
 returns : tie.Need-returns
-returns c = c .all-blank .ensures ∙ ap all-blank (pairs-lent (c .before .before .args .offer .now))
+returns c =
+    let s = c .before .before in
+    c .is-blank .ensures ∙ ap blank (c .before .quantity-at .ensures) ∙ told-by-first (s .args .offer .now) (s .pre .0) (s .pre .1)
 
 pub is-all-blank-spec : {M : Type 1} → statement M
-is-all-blank-spec = tie.close (tie.spec sub-all-blank part-all-blank-start part-all-blank-end all-blank-requires returns)
+is-all-blank-spec =
+    tie.close (tie.spec add-quantity-at quantity-at-requires is-blank-requires returns)

@@ -1,8 +1,8 @@
 use native.Mathlib.Omega.{arith}
 use Rattle.units.proofs.Counts.{word-back}
 use borrow.Author.Needs.{needs}
-use Rattle.offers.proofs.pairs.is_blank.Statement.{statement}
-use Rattle.offers.proofs.pairs.is_blank.Tie as tie
+use Rattle.units.proofs.is_blank.Statement.{statement}
+use Rattle.units.proofs.is_blank.Tie as tie
 
 is-zero-requires : tie.Need-is-zero-requires
 is-zero-requires c κs = search needs

@@ -1,7 +1,9 @@
+use mathlib.Core.Path.{_≡_, _∙_}
+use Rattle.offer_rules.specs.Offer.{BlanksLast, sum-of}
 use Rattle.offers.proofs.Pairing.{words-lent, pairs-lent}
 use borrow.Author.Needs.{needs}
-use Rattle.offers.proofs.pairs.findings_of.Statement.{statement}
-use Rattle.offers.proofs.pairs.findings_of.Tie as tie
+use Rattle.offers.proofs.pairs.judge_offer.Statement.{statement}
+use Rattle.offers.proofs.pairs.judge_offer.Tie as tie
 
 lowest-price-requires : tie.Need-lowest-price-requires
 lowest-price-requires c κs = search needs
@@ -18,16 +20,17 @@ part-pairs-start c = search needs
 part-pairs-end : tie.Need-part-pairs-end
 part-pairs-end c = search needs
 
-findings-in-requires : tie.Need-findings-in-requires
-findings-in-requires c κs = let s = c .before .before .before in (search needs, rw (words-lent (s .args .offer .now)) (s .pre .3))
+judge-pairs-requires : tie.Need-judge-pairs-requires
+judge-pairs-requires c κs = let s = c .before .before .before in (search needs, rw (words-lent (s .args .offer .now)) (s .pre .3))
 
 returns : tie.Need-returns
 returns c =
     let h = c .before .before in
-    rw (c .findings-in .ensures, h .before .lowest-price .ensures, h .highest-price .ensures, pairs-lent (h .before .before .args .offer .now))
+    let o = h .before .before .args .offer .now in
+    rw (h .before .lowest-price .ensures, h .highest-price .ensures, pairs-lent o) at (c .judge-pairs .ensures)
 
-pub findings-of-spec : {M : Type 1} → statement M
-findings-of-spec =
+pub judge-offer-spec : {M : Type 1} → statement M
+judge-offer-spec =
     tie.close
     (tie.spec
     lowest-price-requires
@@ -35,5 +38,5 @@ findings-of-spec =
     sub-pairs
     part-pairs-start
     part-pairs-end
-    findings-in-requires
+    judge-pairs-requires
     returns)
