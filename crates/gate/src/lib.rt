@@ -218,8 +218,7 @@ fn is_total_moved(reason: u8, old: &[i32], new: &[i32]) -> bool
 {
     match reason {
         3 => has_less(new, old),
-        4 => has_less(old, new),
-        5 => has_less(old, new),
+        4 | 5 => has_less(old, new),
         0..=2 | 6..=255 => true,
     }
 }

@@ -1,15 +1,16 @@
 // The numbers that a call draws over the book's words, from 5 on: each reads its words where they stand.
 // What refusal 1 has tested of the words is asked of them; nothing is written.
 ghost use mathlib.Core.Path.{_≡_};
-ghost use mathlib.Core.Bool.{true, false, not};
+ghost use mathlib.Core.Bool.{true, false};
+ghost use mathlib.Core.Option.{none};
 ghost use Prim.Native.Nat.{_+_, _≤_, _<_};
 ghost use lib.ListN.{length};
 ghost use Rattle.offer_rules.specs.Numbers.{toNat, word};
-ghost use Rattle.offer_rules.specs.Time.{next-period};
+ghost use Rattle.offer_rules.specs.Time.{slot-of, next-period};
 ghost use Rattle.offer_rules.specs.Offer.{pairs-in, pairs, all-blank, BlanksLast, offer-number};
 ghost use Rattle.offer_rules.specs.Gate.{is-open};
 ghost use Rattle.book_rules.specs.Words.{part, clock-place, limits-place, facility-place};
-ghost use Rattle.book_rules.specs.Force.{in-force, will-stand, pairs-of};
+ghost use Rattle.book_rules.specs.Force.{first-of, in-force, will-stand, pairs-of};
 ghost use Rattle.book_rules.specs.Refusals.{facility-number, gate-number, period-number, admission-number, revision-number, admitted-standing, grounds};
 ghost use Rattle.book_rules.specs.Book.{facilities-in, services-in, window-in, book-view};
 ghost use Rattle.offers.specs.PairTests.{UsesFive};
@@ -171,21 +172,11 @@ fn pairs_before(book: &[i32], f: usize, service: u8, period: usize) -> &[i32]
     pairs_of(book, old)
 }
 
-// The pairs of "the offer that will stand afterwards": the sent one, or where it is all blank the standing one, if there is any.
-fn pairs_afterwards<'a>(
-    book: &'a [i32],
-    f: usize,
-    service: u8,
-    period: usize,
-    offer: &'a [i32],
-    blank: bool,
-) -> &'a [i32]
-    requires { ⌜ Usable (now book) × (f < facilities-in (now book)) × (service < services-in (now book)) × (length (now offer) ≡ 23) × BlanksLast (pairs (now offer)) × (blank ≡ all-blank (pairs (now offer))) ⌝ }
-    ensures { λ r. ⌜ (pairs-in (now r) ≡ pairs-of (will-stand (book-view (now (book .entry))) f service period (now (offer .entry)))) × (length (now r) ≤ 20) × (not blank ≡ true → (length (now r) ≡ 20) × BlanksLast (pairs-in (now r))) ⌝ }
+// The pairs of the slot's standing offer, which a take-back leaves "afterwards"; none where none is held.
+fn standing_pairs(book: &[i32], f: usize, service: u8, period: usize) -> &[i32]
+    requires { ⌜ Usable (now book) × (f < facilities-in (now book)) × (service < services-in (now book)) ⌝ }
+    ensures { λ r. ⌜ (pairs-in (now r) ≡ pairs-of (first-of none (book-view (now (book .entry)) .standing f service (slot-of period)))) × (length (now r) ≤ 20) ⌝ }
 {
-    if !blank {
-        return &offer[offer::PAIRS..];
-    }
     let standing = held_standing(
         book,
         facilities(book),
@@ -223,14 +214,15 @@ fn gate_number(
     draw_if(!excepted, refusal::GATE_CLOSED)
 }
 
-// 17 of a variation, of which it is told whether its pairs are all blank. Before closure, where most are filed, no offer is looked up.
-pub fn variation_gate_number<'a>(
-    book: &'a [i32],
+// 17 of a variation, of which it is told whether its pairs are all blank. Before closure, where most are filed, no offer is looked up. "The gate compares old with the
+// offer that will stand afterwards": the filed one, or where it is all blank the held standing offer.
+pub fn variation_gate_number(
+    book: &[i32],
     f: usize,
     service: u8,
     period: usize,
     reason: u8,
-    offer: &'a [i32],
+    offer: &[i32],
     blank: bool,
 ) -> u8
     requires { ⌜ Usable (now book) × (f < facilities-in (now book)) × (service < services-in (now book)) × (period < 2147483647) × (length (now offer) ≡ 23) × BlanksLast (pairs (now offer)) × (blank ≡ all-blank (pairs (now offer))) ⌝ }
@@ -240,8 +232,12 @@ pub fn variation_gate_number<'a>(
         return 0;
     }
     let old = pairs_before(book, f, service, period);
-    let new = pairs_afterwards(book, f, service, period, offer, blank);
-    gate_number(book, f, service, period, reason, old, new, !blank)
+    if blank {
+        let standing = standing_pairs(book, f, service, period);
+        return gate_number(book, f, service, period, reason, old, standing, false);
+    }
+    let new = &offer[offer::PAIRS..];
+    gate_number(book, f, service, period, reason, old, new, true)
 }
 
 // ---- a standing offer over a held one
