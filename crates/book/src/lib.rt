@@ -66,7 +66,7 @@ pub fn call(book: &mut [i32], bytes: &[u8]) -> Answer
     bilzhaan_call(book, bytes)
 }
 
-// 1.6.0, for C to hold against its header's.
+// 1.7.0, for C to hold against its header's.
 const LIBRARY_VERSION: u32 = 10700;
 
 #[no_mangle]

@@ -1,29 +1,29 @@
 -- Demands 1 and 2: the number drawn is the lowest whose condition applies, and a refused call changes nothing.
-use mathlib.Core.Path.{_≡_, refl, sym, _∙_, ap}
+use mathlib.Core.Path.{_≡_, refl, sym, _∙_, ap, ap₂}
 use mathlib.Core.Logic.{_⊎_, inl, inr, ⊎-elim}
-use mathlib.Core.Bool.{Bool, true, false, cond, not}
+use mathlib.Core.Bool.{Bool, true, false, cond, not, false≢true}
 use mathlib.Core.List.{List, [], _∷_}
 use mathlib.Core.Option.{Option, none, some}
 use Prim.Native.Nat.{ℕ, zero, suc, _+_, _≤_, _<_}
 use native.Mathlib.Omega.{arith}
 use lib.Dec.{eqb}
-use lib.IntN.{ℤ}
+use lib.IntN.{ℤ, pos, negsuc}
 use lib.ListN.{getD}
 use borrow.Author.Tests.{eqb-true, eqb-false, eq-eqb, ne-eqb}
-use Rattle.offer_rules.specs.Numbers.{toNat, draw, _then_}
+use Rattle.offer_rules.specs.Numbers.{eqZ, toNat, draw, _then_}
 use Rattle.offer_rules.specs.Time.{next-period}
 use Rattle.offer_rules.specs.Offer.{pairs, Held, any-pair, is-priced-blank, blank-before-filled, blank-refused, offer-number}
 use Rattle.offer_rules.specs.Gate.{Grounds, gate-refuses}
 use Rattle.offer_rules.proofs.Periods.{next-is-one}
 use Rattle.offer_rules.proofs.Blanks.{none-before}
-use Rattle.offer_rules.proofs.Drawn.{or-right, or-false, then-eq, then-zero, draw-zero, then-assoc}
+use Rattle.offer_rules.proofs.Drawn.{and-left, and-right, or-right, or-false, then-eq, then-zero, draw-zero, then-assoc}
 use Rattle.book_rules.specs.Record.{period-word, offer-in, is-record, outside, has-stray, record-number}
 use Rattle.book_rules.specs.Words.{is-book}
 use Rattle.book_rules.specs.Force.{View, Answer, plain}
 use Rattle.book_rules.specs.Refusals.{judge, reply, clock-number, capability-number, facility-number, registration-number, admission-number, admitted-standing, admitted-variation, over-held, revision-number, gate-number, outage-number, notice-number, withdrawal-number, period-number, force-number, standing-number, variation-number, look-up-number, equal-words, number, answer, after}
 use Rattle.book_rules.specs.Book.{book-view, book-accept, book-answer, book-after}
 use Rattle.book_rules.specs.ByNumber.{of-held, own-gate, conditions-from-5, conditions, applies}
-use Rattle.book_rules.specs.Claims.{RefusedChangesNothing, AcceptedExactly, LowestThatApplies, RevisedAtNextPeriod, OffersBlanksLast}
+use Rattle.book_rules.specs.Claims.{RefusedChangesNothing, AcceptedExactly, LowestThatApplies, RevisedAtNextPeriod, OffersBlanksLast, NeverEqualToHeld}
 use Rattle.book_rules.proofs.Calls.{Which, is-clock, is-capability, is-standing, is-variation, is-outage, is-notice, is-withdrawal, is-look-up, is-total, named, judge-clock, judge-capability, judge-standing, judge-variation, judge-outage, judge-notice, judge-withdrawal, judge-look-up, judge-total}
 use Rattle.book_rules.proofs.Striking.{reply-number}
 
@@ -223,3 +223,26 @@ revised-at-next-period w b call = (
 pub offers-blanks-last : OffersBlanksLast
 unfolding OffersBlanksLast applies conditions conditions-from-5 blank-refused
 offers-blanks-last w b offer passes = none-before (pairs (offer-in b)) (or-right (any-pair is-priced-blank (pairs (offer-in b))) (blank-before-filled (pairs (offer-in b))) (rw offer at passes))
+
+same-word : (x y : ℤ) → eqZ x y ≡ true → x ≡ y
+same-word (pos m) (pos n) e = ap pos (eqb-true m n e)
+same-word (pos m) (negsuc n) e = absurd (false≢true e)
+same-word (negsuc m) (pos n) e = absurd (false≢true e)
+same-word (negsuc m) (negsuc n) e = ap negsuc (eqb-true m n e)
+
+same-words : (l m : List ℤ) → equal-words l m ≡ true → l ≡ m
+unfolding equal-words
+same-words [] [] e = refl
+same-words [] (y ∷ m) e = absurd (false≢true e)
+same-words (x ∷ l) [] e = absurd (false≢true e)
+same-words (x ∷ l) (y ∷ m) e = ap₂ _∷_ (same-word x y (and-left (eqZ x y) (equal-words l m) e)) (same-words l m (and-right (eqZ x y) (equal-words l m) e))
+
+pub never-equal-to-held : NeverEqualToHeld
+unfolding NeverEqualToHeld applies conditions conditions-from-5 of-held blank-refused
+never-equal-to-held w b h call held holed passes =
+    let none-before = or-right (any-pair is-priced-blank (pairs (offer-in b))) (blank-before-filled (pairs (offer-in b))) (rw call at passes) in
+    rw (call, held) (go (equal-words (h .offer) (offer-in b)) refl none-before)
+  where
+    go : (t : Bool) → equal-words (h .offer) (offer-in b) ≡ t → blank-before-filled (pairs (offer-in b)) ≡ false → t ≡ false
+    go true e z = absurd (false≢true (sym z ∙ ap (λ (o : List ℤ). blank-before-filled (pairs o)) (sym (same-words (h .offer) (offer-in b) e)) ∙ holed))
+    go false e z = refl

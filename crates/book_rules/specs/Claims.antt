@@ -10,7 +10,7 @@ use lib.IntN.{ℤ, pos}
 use lib.ListN.{length, drop}
 use Rattle.offer_rules.specs.Numbers.{toNat, between}
 use Rattle.offer_rules.specs.Time.{IsNext}
-use Rattle.offer_rules.specs.Offer.{pairs, Held, all-blank, BlanksLast}
+use Rattle.offer_rules.specs.Offer.{pairs, Held, all-blank, BlanksLast, blank-before-filled}
 use Rattle.book_rules.specs.Record.{call-of, facility-of, service-of, period-word, offer-in, record-number}
 use Rattle.book_rules.specs.Words.{is-book, opening-number, opening-words}
 use Rattle.book_rules.specs.Force.{View, pairs-of, Answer, plain}
@@ -59,6 +59,12 @@ RevisedAtNextPeriod = (w : List ℤ) (b : List ℕ) → call-of b ≡ 3
 -- "all non-blank pairs come first": in every offer that 12 does not apply to, and so in every one that is accepted, whatever the words.
 unfoldable pub OffersBlanksLast : Type 0
 OffersBlanksLast = (w : List ℤ) (b : List ℕ) → is-offer b ≡ true → applies w b 12 ≡ false → BlanksLast (pairs (offer-in b))
+
+-- "Offers already held are not tested again": of a held standing offer in which a blank pair stands before a non-blank one, no standing offer that 12 does not apply to
+-- draws 18.
+unfoldable pub NeverEqualToHeld : Type 0
+NeverEqualToHeld = (w : List ℤ) (b : List ℕ) (h : Held) → call-of b ≡ 3 → own-held (book-view w) b ≡ some h → blank-before-filled (pairs (h .offer)) ≡ true
+    → applies w b 12 ≡ false → applies w b 18 ≡ false
 
 -- ---- document 02: the minute of acceptance
 

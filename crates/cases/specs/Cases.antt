@@ -92,8 +92,12 @@ abbrev damaged-maximum : List ℤ
 damaged-maximum = put (book-run opened-book (plant ∷ [])) (facility-place 0 + 7) (pos 20000 ∷ [])
 
 -- The standing cell of slot 4 as only a host writes it, or an older library left it: 50.0 at 40.00, a blank, 20.0 at 50.00.
-abbrev holed-book : List ℤ
-holed-book = put opened-book (cell-place 1 1 0 0 standing-half 4) ((pos standing-stamp ∷ zeros 3) ++ pair-words (500 at 4000 ∷ (0 at 0 ∷ (200 at 5000 ∷ []))))
+abbrev middle-blank-book : List ℤ
+middle-blank-book = put opened-book (cell-place 1 1 0 0 standing-half 4) ((pos standing-stamp ∷ zeros 3) ++ pair-words (500 at 4000 ∷ (0 at 0 ∷ (200 at 5000 ∷ []))))
+
+-- From that book, with the plant's capability filed.
+abbrev with-middle-blank : List (List ℕ) → List ℕ → Line → Case
+with-middle-blank calls call line = record { book = middle-blank-book; before = plant ∷ calls; last = call; answered = line }
 
 -- Most rows start from the opened book: the calls before, the last call, its answer.
 abbrev row : List (List ℕ) → List ℕ → Line → Case
@@ -111,10 +115,6 @@ over-stands calls reason offer = row ((plant ∷ (stands ∷ calls)) ++ tripped)
 abbrev added-to-stands : ℕ → ℕ → Line → Case
 added-to-stands period minute =
     row (plant ∷ (stands ∷ (notice 4 period period ∷ (clock minute ∷ [])))) (with-reason 4 (standing 4 (500 at 4000 ∷ (300 at 5000 ∷ []))))
-
--- From that book, with its capability filed.
-abbrev holed : List (List ℕ) → List ℕ → Line → Case
-holed calls call line = record { book = holed-book; before = plant ∷ calls; last = call; answered = line }
 
 abbrev pub first-case : Case
 first-case = row (plant ∷ []) (standing 4 (1300 at 4000 ∷ [])) (draws 16)
@@ -238,7 +238,8 @@ cases =
     -- A link's: 4 is open to it, 1 is not.
     ∷ row (shut-for link) (with-reason 4 (standing 4 (500 at 4000 ∷ (300 at 5000 ∷ [])))) passes
     ∷ row (shut-for link) (with-reason 1 (standing 4 (500 at 4000 ∷ (300 at 5000 ∷ [])))) (draws 17)
-    -- 12 "also applies where a blank pair stands before a non-blank one": before the first, which is not all of them, and between two, where 13 would apply too; 11 comes first
+    -- 12 "also applies where a blank pair stands before a non-blank one": before the first, in a variation too, which then takes nothing back; between two, also where 13
+    -- would apply; 11 comes first
     ∷ row (plant ∷ []) (standing 4 (0 at 0 ∷ (300 at 4000 ∷ []))) (draws 12)
     ∷ row both (variation 4 0 (0 at 0 ∷ (300 at 4000 ∷ []))) (draws 12)
     ∷ row (plant ∷ []) (standing 4 (100 at 4000 ∷ (0 at 0 ∷ (100 at 5000 ∷ [])))) (draws 12)
@@ -249,18 +250,18 @@ cases =
     ∷ row (plant ∷ []) (standing 4 (0 at 0 ∷ (0 at 0 ∷ []))) passes
     ∷ row (plant ∷ []) (variation 4 0 (0 at 0 ∷ (0 at 0 ∷ []))) passes
     -- "Offers already held are not tested again": one with a blank in its middle is shown, and equal to no offer that is filed.
-    ∷ holed [] (look-up 4) (reads 0 3 700)
-    ∷ holed [] stands passes
-    ∷ holed [] (standing 4 (500 at 4000 ∷ (0 at 0 ∷ (200 at 5000 ∷ [])))) (draws 12)
+    ∷ with-middle-blank [] (look-up 4) (reads 0 3 700)
+    ∷ with-middle-blank [] stands passes
+    ∷ with-middle-blank [] (standing 4 (500 at 4000 ∷ (0 at 0 ∷ (200 at 5000 ∷ [])))) (draws 12)
     -- "A held offer .. is still walked to its last pair", as old: the 501st tenth comes after the blank, and so do 20.0 of its 70.0 MW
-    ∷ holed tripped (with-reason 2 (standing 4 (500 at 4000 ∷ (200 at 5000 ∷ [])))) passes
-    ∷ holed tripped (with-reason 2 (standing 4 (500 at 4000 ∷ (200 at 6000 ∷ [])))) (draws 17)
-    ∷ holed (notice 4 4 4 ∷ (clock 56 ∷ [])) (variation 4 4 (500 at 4000 ∷ (200 at 5000 ∷ []))) (draws 17)
-    ∷ holed (notice 4 4 4 ∷ (clock 56 ∷ [])) (variation 4 4 (500 at 4000 ∷ (201 at 5000 ∷ []))) passes
+    ∷ with-middle-blank tripped (with-reason 2 (standing 4 (500 at 4000 ∷ (200 at 5000 ∷ [])))) passes
+    ∷ with-middle-blank tripped (with-reason 2 (standing 4 (500 at 4000 ∷ (200 at 6000 ∷ [])))) (draws 17)
+    ∷ with-middle-blank (notice 4 4 4 ∷ (clock 56 ∷ [])) (variation 4 4 (500 at 4000 ∷ (200 at 5000 ∷ []))) (draws 17)
+    ∷ with-middle-blank (notice 4 4 4 ∷ (clock 56 ∷ [])) (variation 4 4 (500 at 4000 ∷ (201 at 5000 ∷ []))) passes
     -- and as new, where a variation is taken back
-    ∷ holed (variation 4 0 (500 at 4000 ∷ (200 at 5000 ∷ [])) ∷ tripped) (blank 2) passes
-    ∷ holed (variation 4 0 (500 at 4000 ∷ (200 at 6000 ∷ [])) ∷ tripped) (blank 2) (draws 17)
-    ∷ holed (variation 4 0 (500 at 4000 ∷ (100 at 5000 ∷ [])) ∷ (notice 4 4 4 ∷ (clock 56 ∷ []))) (blank 4) passes
+    ∷ with-middle-blank (variation 4 0 (500 at 4000 ∷ (200 at 5000 ∷ [])) ∷ tripped) (blank 2) passes
+    ∷ with-middle-blank (variation 4 0 (500 at 4000 ∷ (200 at 6000 ∷ [])) ∷ tripped) (blank 2) (draws 17)
+    ∷ with-middle-blank (variation 4 0 (500 at 4000 ∷ (100 at 5000 ∷ [])) ∷ (notice 4 4 4 ∷ (clock 56 ∷ []))) (blank 4) passes
     ∷ []
 
 -- Every row of the table holds.

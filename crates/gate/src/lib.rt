@@ -211,7 +211,7 @@ fn has_less(a: &[i32], b: &[i32]) -> bool
     total_tenths(a) < total_tenths(b)
 }
 
-// What it asks of the totals of old and new, which every pair is read for.
+// What it asks of the totals of old and new, for which every pair lent is read.
 fn is_total_moved(reason: u8, old: &[i32], new: &[i32]) -> bool
     requires { ⌜ (length (now old) ≤ 20) × (length (now new) ≤ 20) ⌝ }
     ensures { λ r. ⌜ r ≡ total-moved reason (total-tenths (pairs-in (now (old .entry)))) (total-tenths (pairs-in (now (new .entry)))) ⌝ }
@@ -278,7 +278,7 @@ fn count_to_last(pairs: &[i32]) -> usize
 }
 
 // The pairs to walk: of a filed offer those before its first blank, since "all non-blank pairs come first"; "A held offer, which may be older, is still walked to its
-// last pair", blank pairs among the others included.
+// last pair", whatever blanks stand before that; those after it hold no tenths.
 fn pairs_to_walk(pairs: &[i32], filed: bool) -> &[i32]
     requires { ⌜ (length (now pairs) ≤ 20) × (filed ≡ true → (length (now pairs) ≡ 20) × BlanksLast (pairs-in (now pairs))) ⌝ }
     ensures { λ r. ⌜ BlanksAfter (pairs-in (now r)) (pairs-in (now (pairs .entry))) × (length (now r) ≤ 20) ⌝ }

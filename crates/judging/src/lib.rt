@@ -188,7 +188,7 @@ fn standing_pairs(book: &[i32], f: usize, service: u8, period: usize) -> &[i32]
     pairs_of(book, standing)
 }
 
-// 17 inside gate closure, with the pairs of old and new, of which it is told whether it is the filed offer or a held one.
+// 17 inside gate closure, with the pairs of old and of new; of new it is told whether it is the filed offer or a held one.
 fn gate_number(
     book: &[i32],
     f: usize,

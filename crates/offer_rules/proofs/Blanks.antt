@@ -1,16 +1,15 @@
 -- Blanks after some first pairs: what refusal 12 leaves, and that nothing asked of an offer goes by them.
-use mathlib.Core.Path.{_≡_, refl, sym, ap, _∙_}
-use mathlib.Core.Logic.{_↔_}
-use mathlib.Core.Bool.{Bool, true, false, cond, not, _&&_, _||_, false≢true, true≢false}
+use mathlib.Core.Path.{_≡_, refl, ap, _∙_}
+use mathlib.Core.Bool.{Bool, true, false, cond, not, _&&_, false≢true, true≢false}
 use mathlib.Core.List.{List, [], _∷_, _++_}
 use Prim.Native.Nat.{ℕ, zero, suc, _+_, _-_, _*_, _≤_, _<_, min}
 use native.Mathlib.Omega.{arith}
 use lib.Dec.{leb}
-use lib.IntN.{ℤ, pos, negsuc, _+ℤ_, +ℤ-idl}
+use lib.IntN.{ℤ, pos, negsuc}
 use lib.ListN.{length, take, drop}
 use borrow.Author.Tests.{eqb-true, lt-leb, leb-false}
 use Rattle.offer_rules.specs.Numbers.{eqZ, word, between, draw, _then_}
-use Rattle.offer_rules.specs.Offer.{Pair, pairs-in, pairs, is-blank, all-blank, filled-part, BlanksAfter, BlanksLast, sum-of, any-pair, out-of-range, is-priced-blank, blank-before-filled, blank-refused, non-blank-prices, rises, ramp-refused, proportion-refused, above-capacity, offer-number, NoneBeforeFilled, TestedBlanksLast}
+use Rattle.offer_rules.specs.Offer.{Pair, pairs-in, pairs, is-blank, all-blank, filled-part, BlanksAfter, BlanksLast, sum-of, any-pair, out-of-range, is-priced-blank, blank-before-filled, blank-refused, non-blank-prices, offer-number, NoneBeforeFilled, TestedBlanksLast}
 use Rattle.offer_rules.specs.Gate.{Grounds, tenths-of, total-tenths, price-of-tenth, same-prices-to, same-prices, is-excepted}
 use Rattle.offer_rules.proofs.Drawn.{and-left, and-right, or-left, or-right}
 use Rattle.offer_rules.proofs.Pairs.{pair-at, pairs-from, no-pairs-from}

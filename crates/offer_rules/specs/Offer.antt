@@ -51,7 +51,7 @@ unfoldable pub all-blank : List Pair → Bool
 all-blank [] = true
 all-blank (x ∷ l) = is-blank x && all-blank l
 
--- The pairs before the first blank.
+-- The pairs before the first blank, where what is asked of a filed offer "can stop" (document 02).
 unfoldable pub filled-part : List Pair → List Pair
 filled-part [] = []
 filled-part (x ∷ l) = cond (is-blank x) [] (x ∷ filled-part l)
@@ -137,10 +137,11 @@ unfoldable pub blank-before-filled : List Pair → Bool
 blank-before-filled [] = false
 blank-before-filled (x ∷ l) = (is-blank x && not (all-blank l)) || blank-before-filled l
 
+-- 12 "blank pair with a price", or one that "stands before a non-blank one"
 unfoldable pub blank-refused : List Pair → Bool
 blank-refused l = any-pair is-priced-blank l || blank-before-filled l
 
--- What 12 leaves: in no pairs does a blank stand before a non-blank one exactly where all non-blank pairs come first. A claim; its proof is in proofs/Blanks.
+-- What 12 leaves: no blank stands before a non-blank pair exactly where all non-blank pairs come first. A claim; its proof is in proofs/Blanks.
 unfoldable pub NoneBeforeFilled : Type 0
 NoneBeforeFilled = (l : List Pair) → (blank-before-filled l ≡ false) ↔ BlanksLast l
 

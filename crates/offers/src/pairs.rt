@@ -95,9 +95,9 @@ pub fn still_rises(rises: bool, any: bool, last: Price, price: Price) -> bool
     rises & (!any | (last.0 < price.0))
 }
 
-// What the pairs before the first blank, or up to some place, have shown: `filled` counts them, and `last` is the price of the last, if there is any.
+// What the pairs before the first blank, or up to some place, have shown: `filled` counts them, `any` says whether there is one, and `last` is the price of the last.
 // Where a pair is out of range, nothing else is told.
-pub struct Findings {
+struct Findings {
     pub out_of_range: bool,
     pub rises: bool,
     pub any: bool,
@@ -123,7 +123,7 @@ fn with_filled(f: Findings, price: Price, quantity: Quantity) -> Findings
     }
 }
 
-// The pairs from one to before another, after findings f of those before them. The walk ends at the first that is blank, and at the first that 11 refuses: no number
+// The pairs from one to before another, after findings `start` of those before them. The walk ends at the first that is blank, and at the first that 11 refuses: no number
 // below 11 is left to be drawn from pairs.
 fn walk(
     lowest: Price,
@@ -168,8 +168,8 @@ fn do_five_suffice(lowest: Price, highest: Price, service: u8) -> bool
     !is_out_of_range(lowest, highest, Price(0), Quantity(0))
 }
 
-// Five pairs, and the other five where the walk has not ended before them and they are used; whether they are is asked after the first five, with nothing more to
-// keep on the way.
+// Five pairs, and the other five where the walk has not ended before them and they may change something; whether they may is asked after the first five, with nothing
+// more to keep on the way.
 fn findings_in(lowest: Price, highest: Price, service: u8, pairs: &[i32]) -> Findings
     requires { ⌜ (length (now pairs) ≡ 20) × FiveUsed service (now pairs) ⌝ }
     ensures { λ r. ⌜ r ≡ found-in lowest highest (pairs-in (now (pairs .entry))) ⌝ }

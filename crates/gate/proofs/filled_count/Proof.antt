@@ -2,13 +2,13 @@
 use borrow.Author.Needs.{needs}
 use native.Mathlib.Omega.{arith}
 use mathlib.Core.Path.{_≡_, sym, ap, _∙_}
-use mathlib.Core.Bool.{Bool, true, false, cond}
-use mathlib.Core.List.{List, [], _∷_}
+use mathlib.Core.Bool.{Bool, cond}
+use mathlib.Core.List.{[], _∷_}
 use Prim.Native.Nat.{_≤_, _*_, _-_, _+_}
 use lib.IntN.{pos}
 use lib.ListN.{length, drop}
-use Rattle.offer_rules.specs.Numbers.{eqZ, word}
-use Rattle.offer_rules.specs.Offer.{Pair, pairs-in, filled-part}
+use Rattle.offer_rules.specs.Numbers.{eqZ}
+use Rattle.offer_rules.specs.Offer.{pairs-in, filled-part}
 use Rattle.offer_rules.proofs.Pairs.{pair-at}
 use Rattle.offer_rules.proofs.Blanks.{filled-from, none-left-filled}
 use Rattle.units.specs.declared.Quantity.{Quantity}

@@ -1,6 +1,6 @@
 -- Two walks of five pairs, the second where the first leaves anything to be found.
 use native.Mathlib.Omega.{arith}
-use mathlib.Core.Path.{_≡_, refl, sym, _∙_}
+use mathlib.Core.Path.{refl, sym, _∙_}
 use mathlib.Core.Bool.{_||_}
 use borrow.Author.Needs.{needs}
 use borrow.Author.Tests.{ltb-false}

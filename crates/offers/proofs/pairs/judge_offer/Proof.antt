@@ -1,5 +1,3 @@
-use mathlib.Core.Path.{_≡_, _∙_}
-use Rattle.offer_rules.specs.Offer.{BlanksLast, sum-of}
 use Rattle.offers.proofs.Pairing.{words-lent, pairs-lent}
 use borrow.Author.Needs.{needs}
 use Rattle.offers.proofs.pairs.judge_offer.Statement.{statement}
