@@ -7,7 +7,7 @@ use mathlib.Core.Option.{Option, none, some}
 use Prim.Native.Nat.{ℕ, zero, suc, _+_, _≤_, _<_}
 use native.Mathlib.Omega.{arith}
 use lib.Dec.{eqb}
-use lib.IntN.{ℤ, pos, negsuc}
+use lib.IntN.{ℤ}
 use lib.ListN.{getD}
 use borrow.Author.Tests.{eqb-true, eqb-false, eq-eqb, ne-eqb}
 use Rattle.offer_rules.specs.Numbers.{eqZ, toNat, draw, _then_}
@@ -16,6 +16,7 @@ use Rattle.offer_rules.specs.Offer.{pairs, Held, any-pair, is-priced-blank, bla
 use Rattle.offer_rules.specs.Gate.{Grounds, gate-refuses}
 use Rattle.offer_rules.proofs.Periods.{next-is-one}
 use Rattle.offer_rules.proofs.Blanks.{none-before}
+use Rattle.offer_rules.proofs.Ranges.{same-word}
 use Rattle.offer_rules.proofs.Drawn.{and-left, and-right, or-right, or-false, then-eq, then-zero, draw-zero, then-assoc}
 use Rattle.book_rules.specs.Record.{period-word, offer-in, is-record, outside, has-stray, record-number}
 use Rattle.book_rules.specs.Words.{is-book}
@@ -223,12 +224,6 @@ revised-at-next-period w b call = (
 pub offers-blanks-last : OffersBlanksLast
 unfolding OffersBlanksLast applies conditions conditions-from-5 blank-refused
 offers-blanks-last w b offer passes = none-before (pairs (offer-in b)) (or-right (any-pair is-priced-blank (pairs (offer-in b))) (blank-before-filled (pairs (offer-in b))) (rw offer at passes))
-
-same-word : (x y : ℤ) → eqZ x y ≡ true → x ≡ y
-same-word (pos m) (pos n) e = ap pos (eqb-true m n e)
-same-word (pos m) (negsuc n) e = absurd (false≢true e)
-same-word (negsuc m) (pos n) e = absurd (false≢true e)
-same-word (negsuc m) (negsuc n) e = ap negsuc (eqb-true m n e)
 
 same-words : (l m : List ℤ) → equal-words l m ≡ true → l ≡ m
 unfolding equal-words

@@ -1,17 +1,18 @@
 -- Blanks after some first pairs: what refusal 12 leaves, and that nothing asked of an offer goes by them.
 use mathlib.Core.Path.{_≡_, refl, ap, _∙_}
-use mathlib.Core.Bool.{Bool, true, false, cond, not, _&&_, false≢true, true≢false}
+use mathlib.Core.Bool.{Bool, true, false, cond, not, _&&_, true≢false}
 use mathlib.Core.List.{List, [], _∷_, _++_}
 use Prim.Native.Nat.{ℕ, zero, suc, _+_, _-_, _*_, _≤_, _<_, min}
 use native.Mathlib.Omega.{arith}
 use lib.Dec.{leb}
-use lib.IntN.{ℤ, pos, negsuc}
+use lib.IntN.{ℤ, pos}
 use lib.ListN.{length, take, drop}
-use borrow.Author.Tests.{eqb-true, lt-leb, leb-false}
+use borrow.Author.Tests.{lt-leb, leb-false, not-false}
 use Rattle.offer_rules.specs.Numbers.{eqZ, word, between, draw, _then_}
 use Rattle.offer_rules.specs.Offer.{Pair, pairs-in, pairs, is-blank, all-blank, filled-part, BlanksAfter, BlanksLast, sum-of, any-pair, out-of-range, is-priced-blank, blank-before-filled, blank-refused, non-blank-prices, offer-number, NoneBeforeFilled, TestedBlanksLast}
 use Rattle.offer_rules.specs.Gate.{Grounds, tenths-of, total-tenths, price-of-tenth, same-prices-to, same-prices, is-excepted}
 use Rattle.offer_rules.proofs.Drawn.{and-left, and-right, or-left, or-right}
+use Rattle.offer_rules.proofs.Ranges.{same-word}
 use Rattle.offer_rules.proofs.Pairs.{pair-at, pairs-from, no-pairs-from}
 
 -- ---- what 12 leaves
@@ -28,10 +29,6 @@ unfolding all-blank
 whole [] = blanks-alone [] refl
 whole (x ∷ l) = longer x (whole l)
 
-not-not-true : (t : Bool) → not t ≡ false → t ≡ true
-not-not-true true h = refl
-not-not-true false h = absurd (true≢false h)
-
 pub none-before : (l : List Pair) → blank-before-filled l ≡ false → BlanksLast l
 unfolding blank-before-filled filled-part all-blank
 none-before [] h = whole []
@@ -40,7 +37,7 @@ none-before (x ∷ l) h = go (is-blank x) refl (none-before l (or-right (is-blan
     go : (t : Bool) → is-blank x ≡ t → BlanksLast l → BlanksAfter (cond t [] (x ∷ filled-part l)) (x ∷ l)
     go true e k =
         let z = or-left (is-blank x && not (all-blank l)) (blank-before-filled l) h in
-        blanks-alone (x ∷ l) (rw (e, not-not-true (all-blank l) (rw e at z)))
+        blanks-alone (x ∷ l) (rw (e, not-false (all-blank l) (rw e at z)))
     go false e k = longer x k
 
 -- and the other way round
@@ -77,11 +74,7 @@ tested-blanks-last limits c s reason o h = none-before (pairs o) (or-right (any-
 
 zero-quantity : (x : Pair) → is-blank x ≡ true → x .quantity ≡ pos 0
 unfolding is-blank
-zero-quantity x h = go (x .quantity) h
-  where
-    go : (z : ℤ) → eqZ z (pos 0) ≡ true → z ≡ pos 0
-    go (pos n) e = ap pos (eqb-true n 0 e)
-    go (negsuc n) e = absurd (false≢true e)
+zero-quantity x h = same-word (x .quantity) (pos 0) h
 
 no-sum : (l : List Pair) → all-blank l ≡ true → sum-of l ≡ pos 0
 unfolding sum-of all-blank
@@ -131,16 +124,6 @@ module _ (blanks : List Pair) (h : all-blank blanks ≡ true) where
       go true e later = refl
       go false e later = let m = leb-false n (tenths-of x) e in later (omega (arith, m))
 
-  same-new-to : (old first : List Pair) (n : ℕ) → same-prices-to n old (first ++ blanks) ≡ same-prices-to n old first
-  unfolding same-prices-to
-  same-new-to old first zero = refl
-  same-new-to old first (suc n) = rw (same-new-to old first n, price-before first (suc n) (omega arith))
-
-  same-old-to : (first new : List Pair) (n : ℕ) → same-prices-to n (first ++ blanks) new ≡ same-prices-to n first new
-  unfolding same-prices-to
-  same-old-to first new zero = refl
-  same-old-to first new (suc n) = rw (same-old-to first new n, price-before first (suc n) (omega arith))
-
 -- 13, 16 and 17 of an offer, by its first pairs
 module _ {first l : List Pair} (after : BlanksAfter first l) where
   pub sum-of-first : sum-of l ≡ sum-of first
@@ -152,13 +135,18 @@ module _ {first l : List Pair} (after : BlanksAfter first l) where
   tenths-of-first : total-tenths l ≡ total-tenths first
   tenths-of-first = ap total-tenths (after .followed) ∙ tenths-before (after .blanks) (after .only-blanks) first
 
-  pub excepted-by-new : (g : Grounds) (s p reason : ℕ) (old : List Pair) → is-excepted g s p reason old l ≡ is-excepted g s p reason old first
-  unfolding is-excepted same-prices
-  excepted-by-new g s p reason old = rw (tenths-of-first, after .followed, same-new-to (after .blanks) (after .only-blanks) old first (min (total-tenths old) (total-tenths first)))
+  price-of-first : (n : ℕ) → 1 ≤ n → price-of-tenth l n ≡ price-of-tenth first n
+  price-of-first n k = ap (λ (m : List Pair). price-of-tenth m n) (after .followed) ∙ price-before (after .blanks) (after .only-blanks) first n k
 
-  pub excepted-by-old : (g : Grounds) (s p reason : ℕ) (new : List Pair) → is-excepted g s p reason l new ≡ is-excepted g s p reason first new
+module _ {first-old old first-new new : List Pair} (after-old : BlanksAfter first-old old) (after-new : BlanksAfter first-new new) where
+  same-to : (n : ℕ) → same-prices-to n old new ≡ same-prices-to n first-old first-new
+  unfolding same-prices-to
+  same-to zero = refl
+  same-to (suc n) = rw (same-to n, price-of-first after-old (suc n) (omega arith), price-of-first after-new (suc n) (omega arith))
+
+  pub excepted-by-first : (g : Grounds) (s p reason : ℕ) → is-excepted g s p reason old new ≡ is-excepted g s p reason first-old first-new
   unfolding is-excepted same-prices
-  excepted-by-old g s p reason new = rw (tenths-of-first, after .followed, same-old-to (after .blanks) (after .only-blanks) first new (min (total-tenths first) (total-tenths new)))
+  excepted-by-first g s p reason = rw (tenths-of-first after-old, tenths-of-first after-new, same-to (min (total-tenths first-old) (total-tenths first-new)))
 
 -- An offer's pairs are all blank where its first one is.
 pub first-tells : (x : Pair) (l : List Pair) → BlanksLast (x ∷ l) → all-blank (x ∷ l) ≡ is-blank x

@@ -1,15 +1,10 @@
 -- Cases by kind: the three, and every word that is none of them.
-use mathlib.Core.Path.{_≡_, refl, sym, ap, subst}
-use mathlib.Core.Bool.{Bool, true, false, false≢true}
-use Prim.Native.Nat.{ℕ}
-use borrow.Author.Tests.{eqb-true}
-use lib.IntN.{ℤ, pos, negsuc}
+use mathlib.Core.Path.{_≡_, refl, sym, subst}
+use mathlib.Core.Bool.{Bool, true, false}
+use lib.IntN.{ℤ, pos}
 use Rattle.offer_rules.specs.Numbers.{eqZ}
 use Rattle.offer_rules.specs.Kinds.{kind-row}
-
-the-same : (z : ℤ) (n : ℕ) → eqZ z (pos n) ≡ true → pos n ≡ z
-the-same (pos m) n e = sym (ap pos (eqb-true m n e))
-the-same (negsuc m) n e = absurd (false≢true e)
+use Rattle.offer_rules.proofs.Ranges.{same-word}
 
 no-row : (z : ℤ) → eqZ z (pos 1) ≡ false → eqZ z (pos 2) ≡ false → eqZ z (pos 3) ≡ false → kind-row z ≡ kind-row (pos 0)
 unfolding kind-row
@@ -20,7 +15,7 @@ pub each-kind : (P : ℤ → Type 0) → P (pos 1) → P (pos 2) → P (pos 3)
 each-kind P generation load link other kind = by (eqZ kind (pos 1)) (eqZ kind (pos 2)) (eqZ kind (pos 3)) refl refl refl
   where
     by : (a b c : Bool) → eqZ kind (pos 1) ≡ a → eqZ kind (pos 2) ≡ b → eqZ kind (pos 3) ≡ c → P kind
-    by true b c d e f = subst P (the-same kind 1 d) generation
-    by false true c d e f = subst P (the-same kind 2 e) load
-    by false false true d e f = subst P (the-same kind 3 f) link
+    by true b c d e f = subst P (sym (same-word kind (pos 1) d)) generation
+    by false true c d e f = subst P (sym (same-word kind (pos 2) e)) load
+    by false false true d e f = subst P (sym (same-word kind (pos 3) f)) link
     by false false false d e f = other kind (no-row kind d e f) d e f

@@ -1,11 +1,11 @@
--- Numbers from one to another, and words that are not outside two.
-use mathlib.Core.Path.{_≡_, refl}
-use mathlib.Core.Bool.{Bool, true, false, _&&_, true≢false}
+-- Numbers from one to another, words that are not outside two, and words that are equal.
+use mathlib.Core.Path.{_≡_, refl, ap}
+use mathlib.Core.Bool.{Bool, true, false, _&&_, true≢false, false≢true}
 use Prim.Native.Nat.{ℕ, _≤_}
 use lib.Dec.{leb, ltb}
 use lib.IntN.{ℤ, pos, negsuc}
-use borrow.Author.Tests.{leb-true, ltb-false, le-leb}
-use Rattle.offer_rules.specs.Numbers.{toNat, between, beyond}
+use borrow.Author.Tests.{eqb-true, leb-true, ltb-false, le-leb}
+use Rattle.offer_rules.specs.Numbers.{eqZ, toNat, between, beyond}
 use Rattle.offer_rules.proofs.Drawn.{and-left, and-right, or-left, or-right}
 
 pub and-holds : (a b : Bool) → a ≡ true → b ≡ true → (a && b) ≡ true
@@ -28,3 +28,10 @@ within lo hi a e = (ltb-false a lo (or-left (ltb a lo) (ltb hi a) e), ltb-false 
 pub count-within : (n : ℕ) (z : ℤ) → beyond (pos 0) (pos n) z ≡ false → (z ≡ pos (toNat z)) × (toNat z ≤ n)
 count-within n (pos m) e = (refl, within 0 n m e .1)
 count-within n (negsuc m) e = absurd (true≢false e)
+
+-- Words that are told equal are one.
+pub same-word : (x y : ℤ) → eqZ x y ≡ true → x ≡ y
+same-word (pos m) (pos n) e = ap pos (eqb-true m n e)
+same-word (pos m) (negsuc n) e = absurd (false≢true e)
+same-word (negsuc m) (pos n) e = absurd (false≢true e)
+same-word (negsuc m) (negsuc n) e = ap negsuc (eqb-true m n e)

@@ -4,7 +4,7 @@ use mathlib.Core.Bool.{Bool, true, false, not, cond, _&&_, _||_, and-true, true�
 use mathlib.Core.List.{List, [], _∷_}
 use Prim.Native.Nat.{ℕ, zero, suc, _+_, _*_, _<_, _≤_}
 use native.Mathlib.Omega.{arith}
-use borrow.Author.Tests.{ltb-true, ltb-false, eqb-true, eqb-false, not-true}
+use borrow.Author.Tests.{ltb-true, ltb-false, eqb-false, not-true, not-false}
 use lib.Dec.{ltb, eqb}
 use lib.ListN.{length, getD, drop}
 use lib.Signed.{ltZ}
@@ -12,6 +12,7 @@ use lib.IntN.{ℤ, pos, negsuc, natAbs, _+ℤ_, +ℤ-assoc, +ℤ-idl, +ℤ-idr}
 use Rattle.offer_rules.specs.Numbers.{eqZ, beyond, any-beyond, draw, _then_}
 use Rattle.offer_rules.specs.Offer.{Pair, pairs-in, is-blank, all-blank, filled-part, BlanksLast, sum-of, any-pair, is-priced-blank, blank-before-filled, blank-refused, non-blank-prices, rises}
 use Rattle.offer_rules.proofs.Drawn.{and-left, and-right, or-left, or-right}
+use Rattle.offer_rules.proofs.Ranges.{same-word}
 use Rattle.offer_rules.proofs.Pairs.{pair-at, pairs-from, no-pairs-from}
 use Rattle.offer_rules.proofs.Blanks.{none-before, blanks-have-none, sum-of-first, prices-of-first}
 use Rattle.units.specs.Typed.{price-of, quantity-of}
@@ -156,11 +157,7 @@ blanks-empty (x ∷ l) h k =
     let b = and-left (eqZ (x .quantity) (pos 0)) (all-blank l) h in
     let priced = eqZ (x .quantity) (pos 0) && not (eqZ (x .price) (pos 0)) in
     let n = or-left priced (any-pair is-priced-blank l) k in
-    rw (b, unpriced (eqZ (x .price) (pos 0)) (rw b at n), blanks-empty l (and-right (eqZ (x .quantity) (pos 0)) (all-blank l) h) (or-right priced (any-pair is-priced-blank l) k))
-  where
-    unpriced : (t : Bool) → not t ≡ false → t ≡ true
-    unpriced true e = refl
-    unpriced false e = absurd (true≢false e)
+    rw (b, not-false (eqZ (x .price) (pos 0)) (rw b at n), blanks-empty l (and-right (eqZ (x .quantity) (pos 0)) (all-blank l) h) (or-right priced (any-pair is-priced-blank l) k))
 
 -- after a blank, what isn't empty is refused
 filled-refused : (x : Pair) (l : List Pair) → is-blank x ≡ true → all-empty (x ∷ l) ≡ false → blank-refused (x ∷ l) ≡ true
@@ -228,11 +225,7 @@ module _ (lowest highest : Price) where
 
   -- empty pairs are out of range all or none
   alike : (x : Pair) → is-empty (price-of (x .price)) (quantity-of (x .quantity)) ≡ true → x ≡ record { price = pos 0; quantity = pos 0 }
-  alike x h = ap₂ (λ (p q : ℤ). record { price = p; quantity = q }) (none (x .price) (and-right (eqZ (x .quantity) (pos 0)) _ h)) (none (x .quantity) (and-left (eqZ (x .quantity) (pos 0)) _ h))
-    where
-      none : (z : ℤ) → eqZ z (pos 0) ≡ true → z ≡ pos 0
-      none (pos n) e = ap pos (eqb-true n 0 e)
-      none (negsuc n) e = absurd (false≢true e)
+  alike x h = ap₂ (λ (p q : ℤ). record { price = p; quantity = q }) (same-word (x .price) (pos 0) (and-right (eqZ (x .quantity) (pos 0)) _ h)) (same-word (x .quantity) (pos 0) (and-left (eqZ (x .quantity) (pos 0)) _ h))
 
   empty-in : is-out (record { price = pos 0; quantity = pos 0 }) ≡ false → (l : List Pair) → all-empty l ≡ true → any-pair is-out l ≡ false
   unfolding any-pair all-empty

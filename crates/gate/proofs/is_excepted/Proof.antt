@@ -4,7 +4,7 @@ use mathlib.Core.Bool.{true, false, _&&_, false≢true}
 use borrow.Author.Tests.{not-true, not-false}
 use Rattle.offer_rules.specs.Offer.{pairs-in}
 use Rattle.offer_rules.specs.Gate.{total-tenths, same-prices, total-moved, is-excepted}
-use Rattle.offer_rules.proofs.Blanks.{excepted-by-old, excepted-by-new}
+use Rattle.offer_rules.proofs.Blanks.{excepted-by-first}
 use Rattle.gate.specs.Meaning.{grounds-of}
 use Rattle.gate.proofs.Admitted.{by-totals-and-prices}
 use borrow.Author.Needs.{needs}
@@ -39,8 +39,7 @@ decided c =
     let before = pairs-in (c .before .pairs-to-walk .result .now) in
     let after = pairs-in (c .pairs-to-walk2 .result .now) in
     let a = c .before .before .before .is-admitted in
-    excepted-by-new (c .pairs-to-walk2 .ensures .0) g (s .args .service) (s .args .period) (s .args .reason) (pairs-in (s .args .old .now))
-    ∙ excepted-by-old (c .before .pairs-to-walk .ensures .0) g (s .args .service) (s .args .period) (s .args .reason) after
+    excepted-by-first (c .before .pairs-to-walk .ensures .0) (c .pairs-to-walk2 .ensures .0) g (s .args .service) (s .args .period) (s .args .reason)
     ∙ by-totals-and-prices g (s .args .service) (s .args .period) (s .args .reason) before after true (sym (a .ensures) ∙ not-false (a .result) (c .before .before .if1 .left))
 
 same-prices-requires : tie.Need-same-prices-requires
