@@ -60,6 +60,10 @@ static void print_total(const char *name, int32_t service, int32_t period)
     bilzhaan_write_total(record, service, period);
     const struct bilzhaan_answer answer = bilzhaan_call(words, count, record, sizeof record);
     print_name(name, period);
+    if (answer.number != BILZHAAN_ACCEPTED) {
+        printf("%s\n", bilzhaan_number_text(answer.number));
+        return;
+    }
     printf("%.1f MW, facilities with an offer: %" PRId32 "\n", (double)answer.sum / 10,
            answer.words[BILZHAAN_ANSWER_COUNT]);
 }

@@ -28,6 +28,7 @@
  * - The lent words overlap neither the bytes nor the limits, and no one else touches them until the call returns; but
  *   look-ups and totals of one book may run side by side while nobody writes it.
  * - Between calls the book's words are kept as the last call left them. They may be copied or moved.
+ * - The book has no clock of its own: file call 1 every minute, before offers and look-ups.
  *
  * The book's words are the host's native 32-bit words, so a stored book is for hosts of the same byte order.
  * A record's words are most significant byte first on every host. */
@@ -39,7 +40,8 @@
 
 /* A book of another version than BILZHAAN_BOOK_VERSION, head word 1, is refused with 1. Nothing converts a stored book of
  * version 1, whose cells hold no minute: its host opens a new book and files again, from its own records, what was accepted,
- * in its order and with the clock records between, so that each offer has its minute. */
+ * in its order and with the clock records between, so that each offer has its minute. docs/REFUSALS.md says what to
+ * file where only the old book is left. */
 enum {
     BILZHAAN_BOOK_VERSION = 2,     /* of the books that this version opens and reads */
     BILZHAAN_RECORD_BYTES = 112,
@@ -120,9 +122,9 @@ enum {
 };
 
 /* Byte 12 of a standing offer and of a variation: why it is filed after gate closure, else 0. Above 6 it draws 11, which the
- * record test doesn't ask. A standing offer is asked for one only over a held one, and by its slot's next period alone
- * (bilzhaan_next_period), though it then stands every week. The reason isn't kept. A library older than 1.5.0
- * (bilzhaan_version) refuses a standing offer's with 4. 3, 4 and 5 are also the kinds of advisory notice. */
+ * record test doesn't test. A standing offer needs one only where another is held for the slot, and it is judged for the slot's
+ * next period alone (bilzhaan_next_period), though the offer then stands every week. The reason isn't kept. A library older
+ * than 1.5.0 (bilzhaan_version) refuses a standing offer's with 4. 3, 4 and 5 are also the kinds of advisory notice. */
 enum {
     BILZHAAN_REASON_NONE = 0,
     BILZHAAN_REASON_SYNCHRONISATION = 1, /* 1 and 2: generation alone */
@@ -170,7 +172,8 @@ enum {
     BILZHAAN_CAPABILITY_REFUSED = 8,   /* kind, maxima or marks out of range, or another kind than the held one */
     /* the coordinator who files an offer */
     BILZHAAN_NOT_REGISTERED = 9,       /* the facility isn't registered for the service */
-    BILZHAAN_PERIOD_REFUSED = 10,      /* no such slot; period begun or past the horizon (look-up and total too) */
+    /* no such slot; period begun (30 * P <= clock) or past the horizon (P >= 48 * (day of the clock + 7)); look-up and total too */
+    BILZHAAN_PERIOD_REFUSED = 10,
     BILZHAAN_OUT_OF_RANGE = 11,        /* reason, quantity or price */
     BILZHAAN_BLANK_REFUSED = 12,       /* quantity 0 with a price, or before a pair that isn't blank */
     BILZHAAN_PRICES_DONT_RISE = 13,
@@ -215,8 +218,8 @@ enum {
  * A fresh offer was accepted less than BILZHAAN_SCHEDULE_CUTOFF_MINUTES before the book's clock, and so isn't guaranteed to
  * be used in a market schedule produced at that minute. A filing that is refused makes nothing fresh, a duplicate (18)
  * neither; a variation filed again unchanged is fresh again; after a take-back the standing offer goes by its own minute.
- * Both minutes, of the acceptance and of the look-up, are the book's clock: file it every minute, before offers and
- * look-ups. An offer filed while the clock is three minutes behind stops being fresh three minutes too soon. */
+ * Both minutes, of the acceptance and of the look-up, are the book's clock. An offer filed while the clock is three minutes
+ * behind stops being fresh three minutes too soon. */
 enum {
     BILZHAAN_STANDING_IN_FORCE = 1,
     BILZHAAN_VARIATION_IN_FORCE = 2,
@@ -225,7 +228,7 @@ enum {
 };
 
 /* A date's period, and a period's date, as below. Beside 21 every other field is 0, which elsewhere is a period or a Monday:
- * ask for the number first. */
+ * test the number first. */
 struct bilzhaan_period {
     uint32_t number;
     int32_t period;  /* P */

@@ -119,16 +119,17 @@ static inline void bilzhaan_write_capability(uint8_t record[BILZHAAN_RECORD_BYTE
         bilzhaan_word_(record, w0 + 4 * (BILZHAAN_W_REGISTERED + i), c->registered[i]);
 }
 
-/* Over a held one, inside gate closure of the slot's next period, that asks for a reason that holds for this period, and for
- * the held one's prices, tenth by tenth. A variation for the period, where there is one, stays in force. */
+/* Where one is held for the slot and less than 65 minutes are left before the slot's next period, the new one needs a reason
+ * that holds for that period, and keeps the held one's prices, tenth by tenth. A variation for the period, where there is
+ * one, stays in force. */
 static inline void bilzhaan_write_standing(uint8_t record[BILZHAAN_RECORD_BYTES], const struct bilzhaan_offer *offer)
 {
     bilzhaan_offer_(record, BILZHAAN_CALL_STANDING, offer);
 }
 
-/* Without pairs the variation that is held is taken back, and the standing offer stands again, if there is one. That asks
- * what any variation does: inside gate closure a reason, and the standing offer's prices those of the variation, tenth by
- * tenth; of a generation's reserve a proportion from 1. */
+/* Without pairs it takes the held variation back: the standing offer stands again, if there is one. It is tested as any
+ * variation: less than 65 minutes before the period it needs a reason, and the standing offer must have the variation's
+ * prices, tenth by tenth; for a generation's reserve it needs a proportion from 1. */
 static inline void bilzhaan_write_variation(uint8_t record[BILZHAAN_RECORD_BYTES], const struct bilzhaan_offer *offer)
 {
     bilzhaan_offer_(record, BILZHAAN_CALL_VARIATION, offer);
