@@ -157,6 +157,8 @@ enum {
 
 /* ---- the numbers, uint32_t everywhere: 0 is accepted; of those that apply, the lowest is returned ---- */
 
+/* Of 10: period P has begun where 30 * P <= clock, and lies past the horizon where P >= 48 * (day of the clock + 7). */
+
 enum {
     BILZHAAN_ACCEPTED = 0,
     /* the host program */
@@ -172,8 +174,7 @@ enum {
     BILZHAAN_CAPABILITY_REFUSED = 8,   /* kind, maxima or marks out of range, or another kind than the held one */
     /* the coordinator who files an offer */
     BILZHAAN_NOT_REGISTERED = 9,       /* the facility isn't registered for the service */
-    /* no such slot; period begun (30 * P <= clock) or past the horizon (P >= 48 * (day of the clock + 7)); look-up and total too */
-    BILZHAAN_PERIOD_REFUSED = 10,
+    BILZHAAN_PERIOD_REFUSED = 10,      /* no such slot; period begun or past the horizon (look-up and total too) */
     BILZHAAN_OUT_OF_RANGE = 11,        /* reason, quantity or price */
     BILZHAAN_BLANK_REFUSED = 12,       /* quantity 0 with a price, or before a pair that isn't blank */
     BILZHAAN_PRICES_DONT_RISE = 13,

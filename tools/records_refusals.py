@@ -36,7 +36,8 @@ REFUSALS = {
                'The service; or, where its kind may have the mark, have the capability filed with it.'),
     10: Refusal('period refused', 'no such slot; period begun or past the horizon (look-up and total too)', 'the coordinator or reader',
                 'Standing offer: slot outside 0 to 335. Variation, look-up, total: the period has begun (30 P <= clock), or P >= 48 (d + 7),'
-                " d being the clock's day.", 'The slot or period.'),
+                " d being the clock's day.",
+                'The slot or period. Variations, look-ups and totals are taken for periods that have not begun, up to the end of the sixth day after today.'),
     11: Refusal('out of range', 'reason, quantity or price', COORDINATOR,
                 'Reason above 6; a quantity outside 0 to 9,999.9 MW; a price outside its limits (reserve and regulation from 0.00).'
                 ' Blank pairs are tested too.', 'That value.'),

@@ -34,7 +34,7 @@ fn tested_number(book: &[i32], bytes: &[u8]) -> u8
     record_number(bytes, facilities(book) as u64, services(book) as u64)
 }
 
-// One call, for every words and every bytes: 1 to 4, then the call's own. "Byte 5 selects among nine calls"; refusal 2 leaves no other.
+// One call, for all words and bytes: 1 to 4, then the call's own. "Byte 5 selects among nine calls"; refusal 2 leaves no other.
 // Each case returns its answer itself: answers that meet in a local are copied from there to the caller's 112 bytes.
 #[no_mangle]
 pub extern "C" fn bilzhaan_call(words: &mut [i32], bytes: &[u8]) -> Answer

@@ -135,7 +135,7 @@ module _ (w : List ℤ) (f s p : ℕ) (o : List ℤ) (room : book-size (faciliti
       (elsewhere w f s variation-half (slot-of p) made room hf hs (omega arith) (omega arith) wide standing-half (omega arith) (λ z. omega arith))
       ∙ same-pairs p (now-in w) o (held standing-stamp (cell-in w f s standing-half (slot-of p)))
 
--- ---- every words and every variation
+-- ---- all words and every variation
 
 pub stands-afterwards : StandsAfterwards
 unfolding StandsAfterwards applies conditions conditions-from-5

@@ -1,6 +1,6 @@
 -- Each sentence that names a kind, by the rows of the table.
 use mathlib.Core.Path.{_≡_, refl, sym, _∙_, ap, ap₂}
-use mathlib.Core.Bool.{Bool, true, false, not, _&&_, _||_, false≢true}
+use mathlib.Core.Bool.{Bool, true, false, not, _&&_, _||_}
 use Prim.Native.Nat.{ℕ, zero, suc}
 use native.Mathlib.Omega.{arith}
 use lib.Dec.{ltb}
@@ -28,15 +28,13 @@ pub held-kinds : HeldKinds
 unfolding HeldKinds kind-refused has-kind
 held-kinds held kind = ap₂ (λ (sent h : Bool). not sent || (h && not (eqZ (kind-of held) kind))) (the-three kind) (the-three (kind-of held))
 
--- ---- of a facility that has a kind
+-- ---- by the capability's kind
 
-by-kind : {X : Type 0} → (kind : ℤ) → is-kind kind ≡ true → (kind ≡ pos 1 → X) → (kind ≡ pos 2 → X) → (kind ≡ pos 3 → X) → X
-unfolding kind-row
-by-kind {X} kind e generation load link =
-    each-kind (λ z. is-kind z ≡ true → (z ≡ pos 1 → X) → (z ≡ pos 2 → X) → (z ≡ pos 3 → X) → X)
-    (λ e f g h. f refl) (λ e f g h. g refl) (λ e f g h. h refl)
-    (λ z none a b c e f g h. absurd (false≢true (sym (ap (λ (k : Kind). k .known) none) ∙ e)))
-    kind e generation load link
+by-kind : {X : Type 0} → (kind : ℤ) → (kind ≡ pos 1 → X) → (kind ≡ pos 2 → X) → (kind ≡ pos 3 → X)
+    → (eqZ kind (pos 1) ≡ false → eqZ kind (pos 2) ≡ false → eqZ kind (pos 3) ≡ false → X) → X
+by-kind {X} kind generation load link other =
+    each-kind (λ z. z ≡ kind → X) (λ e. generation (sym e)) (λ e. load (sym e)) (λ e. link (sym e))
+    (λ z none a b c e. other (rw e at a) (rw e at b) (rw e at c)) kind refl
 
 -- No count is within 1 to 0.
 no-count : (n : ℤ) → beyond (pos 1) (pos 0) n ≡ true
@@ -46,12 +44,14 @@ no-count (negsuc n) = refl
 
 pub outages : Outages
 unfolding Outages has-kind kind-row
-outages now c m n h = by-kind (kind-of c) h (λ e. rw e (sym (or-false _))) (λ e. rw e (sym (or-false _))) (λ e. rw e (simp (no-count, or-true)))
+outages now c m n =
+    by-kind (kind-of c) (λ e. rw e (sym (or-false _))) (λ e. rw e (sym (or-false _))) (λ e. rw e (simp (no-count, or-true))) (λ a b c. rw (a, b, c) (sym (or-false _)))
 
 pub marks : Marks
 unfolding Marks has-kind kind-row marks-refused any-mark-astray
-marks c h =
-    by-kind (kind-of c) h (λ e. rw e (simp (and-false, or-false))) (λ e. rw e (simp (and-false, and-true, or-false))) (λ e. rw e (simp (and-false, and-true, or-false)))
+marks c =
+    by-kind (kind-of c) (λ e. rw e (simp (and-false, or-false))) (λ e. rw e (simp (and-false, and-true, or-false))) (λ e. rw e (simp (and-false, and-true, or-false)))
+    (λ a b c. rw (a, b, c) (simp (and-false, or-false)))
 
 energy-alone : (s : ℕ) → between 0 0 s ≡ is-energy s
 energy-alone zero = refl
@@ -59,7 +59,8 @@ energy-alone (suc n) = rw (lt-leb (suc n) 0 (omega arith), le-leb 0 (suc n) (ome
 
 pub registrations : Registrations
 unfolding Registrations has-kind kind-row
-registrations c s h low = by-kind (kind-of c) h (λ e. rw (e, all) refl) (λ e. rw (e, all) refl) (λ e. rw (e, energy-alone s) refl)
+registrations c s low =
+    by-kind (kind-of c) (λ e. rw (e, all) refl) (λ e. rw (e, all) refl) (λ e. rw (e, energy-alone s) refl) (λ a b c. rw (a, b, c, all) refl)
   where
     all : between 0 4 s ≡ true
     all = rw (le-leb 0 s (omega arith), le-leb s 4 low) refl
@@ -72,7 +73,7 @@ proportions c s o =
 
 -- ---- 17
 
--- Whom a reason admits: the three kinds, and no other.
+-- Whom a reason admits, kind by kind.
 whom : (reason : ℕ) (t : ℤ → Bool) → admits (pos 1) reason ≡ t (pos 1) → admits (pos 2) reason ≡ t (pos 2) → admits (pos 3) reason ≡ t (pos 3)
     → ((z : ℤ) → kind-row z ≡ kind-row (pos 0) → eqZ z (pos 1) ≡ false → eqZ z (pos 2) ≡ false → t z ≡ admits (pos 0) reason)
     → (z : ℤ) → admits z reason ≡ t z
@@ -93,17 +94,16 @@ asks-service false s c m = refl
 pub reasons : Reasons
 unfolding Reasons reason-holds admits-service period-covered total-moved kind-row
 reasons g s p old new =
-    let z = g .kind in
-    let unknown : (z : ℤ) → kind-row z ≡ kind-row (pos 0) → is-kind z ≡ false = λ z none. ap (λ (k : Kind). k .known) none in (
+    let z = g .kind in (
       asks-kind (admits z 0) true true ∙ ap (λ (t : Bool). t && true) (whom 0 (λ z. false) refl refl refl (λ z none a b. refl) z),
       asks-kind (admits z 1) true true ∙ and-true (admits z 1) ∙ whom 1 is-generation refl refl refl (λ z none a b. a) z,
       asks-kind (admits z 2) (covers (g .outage) p) true
           ∙ ap₂ _&&_ (whom 2 is-generation refl refl refl (λ z none a b. a) z) (and-true (covers (g .outage) p)),
       asks-service (admits z 3) (is-energy s) (covers (g .surplus) p) (ltb new old)
-          ∙ ap (λ (t : Bool). t && ((is-energy s && covers (g .surplus) p) && ltb new old)) (whom 3 is-kind refl refl refl (λ z none a b. unknown z none) z),
+          ∙ ap (λ (t : Bool). t && ((is-energy s && covers (g .surplus) p) && ltb new old)) (whom 3 (λ z. true) refl refl refl (λ z none a b. refl) z),
       asks-kind (admits z 4) (covers (g .shortfall) p) (ltb old new)
-          ∙ ap (λ (t : Bool). t && (covers (g .shortfall) p && ltb old new)) (whom 4 is-kind refl refl refl (λ z none a b. unknown z none) z),
+          ∙ ap (λ (t : Bool). t && (covers (g .shortfall) p && ltb old new)) (whom 4 (λ z. true) refl refl refl (λ z none a b. refl) z),
       asks-kind (admits z 5) (covers (g .status) p) (ltb old new)
-          ∙ ap (λ (t : Bool). t && (covers (g .status) p && ltb old new)) (whom 5 is-kind refl refl refl (λ z none a b. unknown z none) z),
+          ∙ ap (λ (t : Bool). t && (covers (g .status) p && ltb old new)) (whom 5 (λ z. true) refl refl refl (λ z none a b. refl) z),
       asks-kind (admits z 6) (covers (g .outage) p) true ∙ ap₂ _&&_ (whom 6 is-load refl refl refl (λ z none a b. b) z) (and-true (covers (g .outage) p)),
     )

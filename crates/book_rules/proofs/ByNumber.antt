@@ -74,7 +74,7 @@ module _ (vw : View) (b : List ℕ) where
   call-lowest (is-look-up e) = judge-look-up vw b e ∙ unfold look-up-number facility-number period-number force-number in rw e (simp (or-false, skip, last-drawn))
   call-lowest (is-total e) = judge-total vw b e ∙ unfold period-number in rw e (simp (or-false, skip, last-drawn))
 
--- ---- every words and every bytes
+-- ---- all words and bytes
 
 refused-on : (w : List ℤ) (b : List ℕ) → is-book w ≡ true → book-answer w b .number ≡ number (List ℤ) book-view book-accept w b
 unfolding book-answer answer plain

@@ -16,7 +16,7 @@ use Rattle.book_rules.proofs.Striking.{look-up-beside, look-ups-beside}
 
 -- ---- a run by its words and records
 
--- Every list of records has a run from every words, and only the one.
+-- Every list of records has a run from all words, and only the one.
 pub run-of : (words : List ℤ) (records : List (List ℕ)) → ContractedRun words records (book-answers words records) (book-run words records)
 unfolding book-answers book-run
 run-of words [] = no-call

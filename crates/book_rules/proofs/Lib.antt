@@ -15,3 +15,4 @@ pub mod ByNumber
 pub mod OneCall
 pub mod Afterwards
 pub mod Ageless
+pub mod Totals

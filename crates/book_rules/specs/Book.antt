@@ -82,7 +82,7 @@ book-accept w b =
     (cond (eqb (call-of b) 7) (put w (notice-place 5) (words-of empty-window))
     w))))))
 
--- ---- what a call answers, and the words it leaves, for every words and bytes
+-- ---- what a call answers, and the words it leaves, for all words and bytes
 
 unfoldable pub book-answer : List ℤ → List ℕ → Answer
 book-answer w b = cond (is-book w) (answer (List ℤ) book-view book-accept w b) (plain 1)

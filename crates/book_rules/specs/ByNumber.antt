@@ -1,5 +1,6 @@
 -- Document 01, "Who draws which number", number by number: the condition of each, on the calls that it names.
--- Demand 2 speaks of this list; the order in which a call is tested is in Refusals.
+-- Demand 2 speaks of this list, in which a condition's place is its number; the order in which a call is tested is in Refusals.
+-- A condition is asked whether a lower one applies or not. Of a period word that 10 refuses, what 17, 18 and 19 then ask has no meaning: 10 is lower.
 use mathlib.Core.Bool.{Bool, false, not, _&&_, _||_}
 use mathlib.Core.List.{List, [], _∷_}
 use mathlib.Core.Option.{Option, none, some}
@@ -65,17 +66,22 @@ module _ (vw : View) (b : List ℕ) where
       ∷ ((is-offer b && registration-refused own-capability (service-of b))
       -- 10 "slot outside 0–335; P begun .. or P ≥ 48·(d + 7) .. Also calls 8 and 9, for P."
       ∷ (((is-call 3 b && slot-refused (period-word b)) || (((is-call 4 b || is-call 8 b) || is-call 9 b) && period-refused (vw .now) (period-word b)))
-      -- 11 to 16 of an offer
+      -- 11 "reason above 6, quantity outside 0–99,999, price outside its limits"
       ∷ ((is-offer b && out-of-range (vw .limits) (service-of b) (reason-of b) (offer-in b))
+      -- 12 "blank pair with a price", or before a non-blank one
       ∷ ((is-offer b && blank-refused own-pairs)
+      -- 13 "prices of non-blank pairs not strictly rising"
       ∷ ((is-offer b && not (rises (non-blank-prices own-pairs)))
+      -- 14 "energy ramp outside 0 to its maximum", or above 9,999
       ∷ ((is-offer b && ramp-refused own-capability (service-of b) (offer-in b))
+      -- 15 "generation reserve: proportion 0 or above its maximum"
       ∷ ((is-offer b && proportion-refused own-capability (service-of b) (offer-in b))
+      -- 16 "total above generation or combined maximum (energy), or above the service's own"
       ∷ ((is-offer b && above-capacity own-capability (service-of b) (sum-of own-pairs))
       -- 17 "gate", of a standing offer over a held one and of a variation
       ∷ (((is-call 3 b && of-held (λ h. own-gate (next-period (vw .now) (toNat (period-word b))) (pairs (h .offer)) own-pairs) own-held)
       || (is-call 4 b && own-gate (toNat (period-word b)) (pairs-of own-force) (pairs-of own-afterwards)))
-      -- 18 "standing offer equal to the held one", whatever its minute
+      -- 18 "standing offer equal to the held one in cell words 1–23", whatever its minute
       ∷ ((is-call 3 b && of-held (λ h. equal-words (h .offer) (offer-in b)) own-held)
       -- 19 "nothing in force (call 8)"
       ∷ ((is-call 8 b && eqb (counted own-force) 0)

@@ -11,13 +11,17 @@ use Rattle.offer_rules.specs.Gate.{Window}
 
 -- What the rules read of a state, whether a book's words or a list of accepted calls.
 pub record View : Type 0 where
+  -- F, S and the six price limits of the opening, and the clock
   pub facilities : ℕ
   pub services : ℕ
   pub limits : List ℤ
   pub now : ℕ
+  -- of facility f
   pub capability : ℕ → List ℤ
   pub outage : ℕ → Window
+  -- of kind 3, 4 or 5
   pub notice : ℕ → Window
+  -- of (f, s, slot), and of (f, s, P)
   pub standing : ℕ → ℕ → ℕ → Option Held
   pub variation : ℕ → ℕ → ℕ → Option Held
 

@@ -1,4 +1,5 @@
--- The rules of the book by document 01, in that paper's order, with document 02's where they are quoted. Units and time, the offer and the gate stand below, in offer_rules.
+-- The rules of the book by document 01, with document 02's where they are quoted, in that paper's order but for the list machine, which stands beside the book,
+-- after the rules that both follow. Units and time, the offer and the gate stand below, in offer_rules.
 pub mod Record
 pub mod Words
 pub mod Force

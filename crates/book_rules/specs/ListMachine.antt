@@ -13,7 +13,7 @@ use Rattle.book_rules.specs.Record.{call-of, facility-of, service-of, pe
 use Rattle.book_rules.specs.Force.{View, Answer, empty-window, outage-window, variation-made}
 use Rattle.book_rules.specs.Refusals.{answer, after}
 
--- What the newest call says to which the test applies, over the calls older than it; `before` where there is none.
+-- What is said by the newest call that passes the test, given the calls older than it; `before` where no call passes.
 unfoldable pub newest : {A : Type 0} → (List ℕ → Bool) → (List ℕ → List (List ℕ) → A) → A → List (List ℕ) → A
 newest test says before [] = before
 newest test says before (c ∷ older) = cond (test c) (says c older) (newest test says before older)

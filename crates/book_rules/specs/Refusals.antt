@@ -90,7 +90,8 @@ grounds vw f = record { kind = kind-of (vw .capability f); outage = vw .outage f
 unfoldable pub gate-number : ℕ → Grounds → ℕ → ℕ → ℕ → List Pair → List Pair → ℕ
 gate-number now g s p reason old new = draw (gate-refuses now g s p reason old new) 17
 
--- 18 "standing offer equal to the held one"; "The duplicate test ignores the minute" (document 02).
+-- 18 "standing offer equal to the held one in cell words 1–23"; "The duplicate test ignores the minute" (document 02). Compared are proportion,
+-- both ramps as word 2 gives them, and pairs: of ramps that 14 lets through, equal ramps and equal words 2 are one.
 unfoldable pub equal-words : List ℤ → List ℤ → Bool
 equal-words [] [] = true
 equal-words [] (y ∷ m) = false
@@ -133,6 +134,7 @@ admitted-variation vw f s p reason o =
     offer-number (vw .limits) (vw .capability f) s reason o
     then gate-number (vw .now) (grounds vw f) s p reason (pairs-of (in-force vw f s p)) (pairs-of (will-stand vw f s p o))
 
+-- Where 10 is not drawn the slot is 0 to 335, and the period of a variation or a look-up a count; `toNat` then changes nothing.
 unfoldable pub standing-number : View → ℕ → ℕ → ℤ → ℕ → List ℤ → ℕ
 standing-number vw f s k reason o = admission-number (vw .capability f) s (slot-refused k) then admitted-standing vw f s (toNat k) reason o
 

@@ -1,4 +1,4 @@
--- Document 01, "The book's words": where each thing stands, and the opening (refusal 20).
+-- Document 01, "The book's words": where each thing stands, the test of a book (refusal 1), and the opening (refusal 20).
 use mathlib.Core.Bool.{Bool, cond, not, _&&_}
 use mathlib.Core.List.{List, [], _∷_, _++_}
 use mathlib.Core.Option.{Option, none, some}
@@ -36,6 +36,7 @@ book-version = pos 2
 abbrev pub clock-place : ℕ
 clock-place = 4
 
+-- 5, 7 and 9 for notices 3, 4 and 5.
 abbrev pub notice-place : ℕ → ℕ
 notice-place k = 2 * k - 1
 
@@ -81,7 +82,7 @@ cell-held c = record {
   minute = word c 3;
 }
 
--- Ramps that come back from word 2 as they went in: refusals 4 and 14 leave no others (Claims, HeldAsFiled).
+-- Ramps that come back from word 2 as they went in: refusals 4 and 14 leave no others (proofs/Cells, offer-fits).
 abbrev pub ramps-fit : List ℤ → Bool
 ramps-fit o = not (any-beyond (pos 0) most-ramp o 1 2)
 

@@ -13,10 +13,10 @@ pub record PeriodAnswer : Type 0 where
   pub period : ℤ
   pub weekday : ℤ
 
--- "21, tested on its own before anything else, where the date doesn't exist, the year is outside 2024–2099, the period is outside 1–48"
 abbrev pub no-period : PeriodAnswer
 no-period = record { number = 21; period = pos 0; weekday = pos 0 }
 
+-- "21, tested on its own before anything else, where the date doesn't exist, the year is outside 2024–2099, the period is outside 1–48"
 unfoldable pub is-date-and-period : ℕ → ℕ → ℕ → ℕ → Bool
 is-date-and-period year month day period = date-exists year month day && between 1 periods-a-day period
 

@@ -1,4 +1,4 @@
--- What document 02 says of dates, as claims about the definitions, for every words. Their proofs are in proofs/Claimed.
+-- What document 02 says of dates, as claims about the definitions, for all words. Their proofs are in proofs/Claimed.
 use mathlib.Core.Path.{_≡_}
 use mathlib.Core.Logic.{_↔_, _≢_}
 use mathlib.Core.Bool.{Bool, true, false}

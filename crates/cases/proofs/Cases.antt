@@ -1,11 +1,8 @@
 -- Each row of the table of cases, by computing all of them at once.
 use mathlib.Core.Path.{_≡_, refl, sym, _∙_, ap, ap₂}
-use mathlib.Core.Bool.{true, false}
 use mathlib.Core.List.{List, [], _∷_, map}
 use lib.ListN.{getD, List·getD-map}
-use Rattle.offer_rules.specs.Gate.{same-prices-to}
-use Rattle.cases.specs.Records.{_at_}
-use Rattle.cases.specs.Cases.{Line, Case, answer-in, first-case, cases, EveryCase, RampsShown, CellWords, NextPeriods}
+use Rattle.cases.specs.Cases.{Line, Case, answer-in, first-case, cases, EveryCase, The451stDiffers, Openings, RampsShown, CellWords, NextPeriods}
 use Rattle.cases.proofs.Computes.{computes}
 
 all-answered : map answer-in cases ≡ map (λ c. c .answered) cases
@@ -31,9 +28,10 @@ pub next-periods : NextPeriods
 unfolding computes NextPeriods
 next-periods = (refl, refl, refl, refl, refl)
 
--- "the 451st tenth differs", and none before it.
-pub the-451st-differs :
-    (same-prices-to 450 (500 at 4000 ∷ (200 at 5000 ∷ [])) (450 at 4000 ∷ (300 at 5000 ∷ [])) ≡ true)
-    × (same-prices-to 451 (500 at 4000 ∷ (200 at 5000 ∷ [])) (450 at 4000 ∷ (300 at 5000 ∷ [])) ≡ false)
-unfolding computes
+pub the-451st-differs : The451stDiffers
+unfolding computes The451stDiffers
 the-451st-differs = (refl, refl)
+
+pub openings : Openings
+unfolding computes Openings
+openings = (refl, refl, refl, refl, refl, refl, refl, refl)

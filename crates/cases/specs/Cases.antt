@@ -1,6 +1,6 @@
--- The cases marked (p), and those of a variation taken back, of a link, of a fresh offer, of a slot's next period, of a standing offer in an outage and of blank pairs, as
--- one table with one statement.
+-- The cases marked (p), those of document 02's requests, and some at the edges of numbers and fields that no claim speaks of, as one table with one statement.
 use mathlib.Core.Path.{_≡_}
+use mathlib.Core.Bool.{true, false}
 use mathlib.Core.List.{List, [], _∷_, _++_}
 use Prim.Native.Nat.{ℕ, _+_}
 use lib.IntN.{ℤ, pos, negsuc}
@@ -8,10 +8,11 @@ use lib.ListN.{getD, replicate}
 use Rattle.offer_rules.specs.Numbers.{word, zeros}
 use Rattle.offer_rules.specs.Time.{next-period}
 use Rattle.offer_rules.specs.Offer.{Pair}
-use Rattle.book_rules.specs.Words.{part, put, facility-place, cell-place, standing-half, variation-half, standing-stamp, opening-words}
+use Rattle.offer_rules.specs.Gate.{same-prices-to}
+use Rattle.book_rules.specs.Words.{part, put, facility-place, cell-place, standing-half, variation-half, standing-stamp, opening-number, opening-words}
 use Rattle.book_rules.specs.Force.{Answer}
 use Rattle.book_rules.specs.Book.{book-answer, book-run}
-use Rattle.cases.specs.Records.{_at_, pair-words, clock, capability-words, energy-mark, capability-of, capability, standing-for, standing, with-reason, ramping, variation, outage, notice, look-up-for, look-up, total}
+use Rattle.cases.specs.Records.{_at_, pair-words, clock, capability-words, energy-mark, capability-of, capability, standing-for, standing, with-byte, with-reason, of-facility, with-proportion, ramping, variation-for, variation, outage, notice, withdrawal, look-up-for, look-up, total}
 
 -- "a book of 16,224 words, all zero before opening, F 1, S 1, energy −4,500.00 to 4,500.00, others to 4,500.00"
 abbrev pub limits : List ℤ
@@ -20,9 +21,12 @@ limits = negsuc 449999 ∷ (pos 450000 ∷ (pos 450000 ∷ (pos 450000 ∷ (pos 
 abbrev pub opened-book : List ℤ
 opened-book = opening-words (replicate 16224 (pos 0)) (pos 1) (pos 1) limits
 
--- The same for five services, of 80,736 words.
+-- One for five services, of 80,736 words, each with a highest price of its own; and one for two facilities.
 abbrev pub wide-book : List ℤ
-wide-book = opening-words (replicate 80736 (pos 0)) (pos 1) (pos 5) limits
+wide-book = opening-words (replicate 80736 (pos 0)) (pos 1) (pos 5) (negsuc 449999 ∷ (pos 450000 ∷ (pos 100 ∷ (pos 200 ∷ (pos 300 ∷ (pos 400 ∷ []))))))
+
+abbrev pub pair-book : List ℤ
+pair-book = opening-words (replicate 32384 (pos 0)) (pos 2) (pos 1) limits
 
 -- What the program prints of an answer: number, word 0, sum.
 pub record Line : Type 0 where
@@ -103,6 +107,35 @@ with-middle-blank calls call line = record { book = middle-blank-book; before = 
 abbrev row : List (List ℕ) → List ℕ → Line → Case
 row calls call line = record { book = opened-book; before = calls; last = call; answered = line }
 
+-- A facility of this kind with maxima of its own for each service, class and ramp, registered for services by these marks; and offers on the book of five services.
+abbrev of-all : ℕ → List ℤ → List ℕ
+of-all kind marks =
+    capability-of (pos kind ∷ (pos 1300 ∷ (pos 800 ∷ (pos 10 ∷ (pos 20 ∷ (pos 30 ∷ (pos 40 ∷ (pos 9999 ∷ (pos 9998 ∷ (pos 1000 ∷ (pos 900 ∷ (pos 800 ∷ marks))))))))))))
+
+abbrev all-marks : List ℤ
+all-marks = replicate 5 (pos 1)
+
+abbrev reserve-marks : List ℤ
+reserve-marks = pos 0 ∷ (pos 1 ∷ (pos 1 ∷ (pos 1 ∷ (pos 0 ∷ []))))
+
+abbrev wide : List (List ℕ) → List ℕ → Line → Case
+wide calls call line = record { book = wide-book; before = calls; last = call; answered = line }
+
+abbrev in-wide : List ℕ → Line → Case
+in-wide = wide (of-all 1 all-marks ∷ [])
+
+-- 2.0 MW of service 2 at 2.00, the most that it may be.
+abbrev secondary : ℕ → List ℕ
+secondary proportion = with-proportion proportion (standing-for 2 4 (20 at 200 ∷ []))
+
+-- Two facilities, the second with the first's capability.
+abbrev two : List (List ℕ) → List ℕ → Line → Case
+two calls call line = record { book = pair-book; before = plant ∷ (of-facility 1 plant ∷ calls); last = call; answered = line }
+
+-- `stands` is held, notices 4 and 5 are for period 4, and the gate is shut; a variation of 10.0 MW more with a reason.
+abbrev noticed : List (List ℕ) → ℕ → Line → Case
+noticed calls reason = row ((plant ∷ (stands ∷ (notice 4 4 4 ∷ (notice 5 4 4 ∷ (clock 56 ∷ []))))) ++ calls) (variation 4 reason (500 at 4000 ∷ (300 at 5000 ∷ [])))
+
 -- A slot's standing offer, and at a minute another over it.
 abbrev revised : ℕ → ℕ → Line → Case
 revised slot minute = row (plant ∷ (standing slot (700 at 4000 ∷ []) ∷ (clock minute ∷ []))) (standing slot (600 at 4000 ∷ []))
@@ -131,11 +164,11 @@ cases =
     ∷ row (plant ∷ []) (standing 4 (500 at 10000 ∷ (0 at 0 ∷ []))) passes
     ∷ row (plant ∷ []) (standing 4 (0 at 5000 ∷ [])) (draws 12)
     ∷ row (plant ∷ []) (standing 4 (500 at 4000 ∷ (0 at 5000 ∷ []))) (draws 12)
-    -- "now 55, P 4: 65 left, open." "now 56: 17 without reason." "now 120: 10."
+    -- "now 55, P 4: 65 left, open. .. now 56: 17 without reason. .. now 120: 10."
     ∷ row (plant ∷ (clock 55 ∷ [])) (variation 4 0 (300 at 4000 ∷ [])) passes
     ∷ row (plant ∷ (clock 56 ∷ [])) (variation 4 0 (300 at 4000 ∷ [])) (draws 17)
     ∷ row (plant ∷ (clock 120 ∷ [])) (variation 4 0 (300 at 4000 ∷ [])) (draws 10)
-    -- "second pair 30.0 passes; 45.0 and 30.0: 17, the 451st tenth differs."
+    -- "second pair 30.0 passes; .. 45.0 and 30.0: 17, the 451st tenth differs."
     ∷ row (shut-for plant) (variation 4 4 (500 at 4000 ∷ (300 at 5000 ∷ []))) passes
     ∷ row (shut-for plant) (variation 4 4 (450 at 4000 ∷ (300 at 5000 ∷ []))) (draws 17)
     -- Taken back before closure: the look-up then answers the standing offer, and 19 where there is none.
@@ -262,11 +295,87 @@ cases =
     ∷ with-middle-blank (variation 4 0 (500 at 4000 ∷ (200 at 5000 ∷ [])) ∷ tripped) (blank 2) passes
     ∷ with-middle-blank (variation 4 0 (500 at 4000 ∷ (200 at 6000 ∷ [])) ∷ tripped) (blank 2) (draws 17)
     ∷ with-middle-blank (variation 4 0 (500 at 4000 ∷ (100 at 5000 ∷ [])) ∷ (notice 4 4 4 ∷ (clock 56 ∷ []))) (blank 4) passes
+    -- 4 "an unused byte not zero": byte 13 of every call, byte 7 of an outage
+    ∷ row (plant ∷ []) (with-byte 13 1 stands) (draws 4)
+    ∷ row (plant ∷ []) (with-byte 7 1 (outage 0 1)) (draws 4)
+    -- 7 "not 0 ≤ A ≤ B ≤ 40,000,000"
+    ∷ row [] (notice 3 5 4) (draws 7)
+    ∷ row [] (notice 3 4 40000000) passes
+    ∷ row [] (notice 3 4 40000001) (draws 7)
+    -- 8 "W1–W6 outside 0–99,999; W7, W8 outside 0–9,999; W9–W11 outside 0–1,000": W6 100,000, W8 10,000, W11 1,056; "load with mark 0 or 4 set"
+    ∷ row [] (of-all 1 all-marks) passes
+    ∷ row [] (with-byte 57 1 (with-byte 58 134 (with-byte 59 160 (of-all 1 all-marks)))) (draws 8)
+    ∷ row [] (with-byte 67 16 (of-all 1 all-marks)) (draws 8)
+    ∷ row [] (with-byte 78 4 (of-all 1 all-marks)) (draws 8)
+    ∷ row [] (of-all 2 all-marks) (draws 8)
+    -- 9 "mark for the service not 1": registered for reserve alone
+    ∷ wide (of-all 2 reserve-marks ∷ []) (standing-for 3 4 (30 at 300 ∷ [])) passes
+    ∷ wide (of-all 2 reserve-marks ∷ []) (standing-for 4 4 (30 at 300 ∷ [])) (draws 9)
+    -- 10 "P ≥ 48·(d + 7)": the last period of the horizon, and the first past it
+    ∷ row (plant ∷ []) (variation 335 0 (300 at 4000 ∷ [])) passes
+    ∷ row (plant ∷ []) (variation 336 0 (300 at 4000 ∷ [])) (draws 10)
+    ∷ row (plant ∷ []) (standing 336 (300 at 4000 ∷ [])) (draws 10)
+    -- 11 "quantity outside 0–99,999, price outside its limits (services 1–4 from 0)"
+    ∷ row (plant ∷ []) (standing 4 (99999 at 4000 ∷ [])) (draws 16)
+    ∷ row (plant ∷ []) (standing 4 (100000 at 4000 ∷ [])) (draws 11)
+    ∷ row (plant ∷ []) (standing 4 (record { price = pos 4000; quantity = negsuc 0 } ∷ [])) (draws 11)
+    ∷ row (plant ∷ []) (standing 4 (record { price = negsuc 449999; quantity = pos 1 } ∷ [])) passes
+    ∷ in-wide (with-proportion 900 (standing-for 2 4 (20 at 201 ∷ []))) (draws 11)
+    ∷ in-wide (with-proportion 900 (standing-for 2 4 (record { price = negsuc 0; quantity = pos 1 } ∷ []))) (draws 11)
+    -- 13 "not strictly rising"
+    ∷ row (plant ∷ []) (standing 4 (100 at 4000 ∷ (100 at 4000 ∷ []))) (draws 13)
+    -- 14 ramp down against its own maximum
+    ∷ in-wide (with-byte 22 39 (with-byte 23 14 (standing-for 0 4 (700 at 4000 ∷ [])))) passes
+    ∷ in-wide (with-byte 22 39 (with-byte 23 15 (standing-for 0 4 (700 at 4000 ∷ [])))) (draws 14)
+    -- 15 "generation reserve: proportion 0 or above its maximum; load isn't tested"
+    ∷ in-wide (secondary 900) passes
+    ∷ in-wide (secondary 901) (draws 15)
+    ∷ in-wide (secondary 0) (draws 15)
+    ∷ wide (of-all 2 reserve-marks ∷ []) (secondary 65535) passes
+    -- 16 "total above generation or combined maximum (energy), or above the service's own"
+    ∷ row (capability 800 1300 ∷ []) (standing 4 (1300 at 4000 ∷ [])) (draws 16)
+    ∷ in-wide (with-proportion 900 (standing-for 2 4 (21 at 200 ∷ []))) (draws 16)
+    ∷ in-wide (standing-for 4 4 (40 at 400 ∷ [])) passes
+    ∷ in-wide (standing-for 4 4 (41 at 400 ∷ [])) (draws 16)
+    -- 17: "Its window is m div 30 + 1 to m div 30 + n"
+    ∷ row (plant ∷ (clock 56 ∷ (outage 56 1 ∷ []))) (variation 2 2 (300 at 4000 ∷ [])) passes
+    ∷ row (plant ∷ (clock 56 ∷ (outage 56 1 ∷ []))) (variation 3 2 (300 at 4000 ∷ [])) (draws 17)
+    -- "6 load, P in the outage window"
+    ∷ wide (of-all 2 reserve-marks ∷ (clock 56 ∷ (outage 56 3 ∷ []))) (variation-for 1 4 6 (10 at 100 ∷ [])) passes
+    ∷ wide (of-all 2 reserve-marks ∷ (clock 56 ∷ (outage 56 3 ∷ []))) (variation-for 1 4 2 (10 at 100 ∷ [])) (draws 17)
+    -- "3 service 0, P in notice 3, new total below old", of a variation
+    ∷ row (plant ∷ (stands ∷ (notice 3 4 4 ∷ (clock 56 ∷ [])))) (variation 4 3 (500 at 4000 ∷ [])) passes
+    -- "only kind 5 can be withdrawn": 4 then still holds
+    ∷ noticed [] 5 passes
+    ∷ noticed (withdrawal ∷ []) 5 (draws 17)
+    ∷ noticed (withdrawal ∷ []) 4 passes
+    -- 18: another proportion is no duplicate
+    ∷ wide (of-all 1 all-marks ∷ (secondary 900 ∷ [])) (secondary 900) (draws 18)
+    ∷ wide (of-all 1 all-marks ∷ (secondary 900 ∷ [])) (secondary 899) passes
+    -- "word 0 counts facilities with an offer in force": none, the second's alone, both
+    ∷ two [] (total 4) passes
+    ∷ two (of-facility 1 stands ∷ []) (total 4) (reads 0 1 700)
+    ∷ two (of-facility 1 stands ∷ (standing 4 (500 at 4000 ∷ []) ∷ [])) (total 4) (reads 0 2 1200)
     ∷ []
 
 -- Every row of the table holds.
 unfoldable pub EveryCase : Type 0
 EveryCase = (i : ℕ) → answer-in (getD cases i first-case) ≡ getD cases i first-case .answered
+
+-- "the 451st tenth differs", and none before it.
+unfoldable pub The451stDiffers : Type 0
+The451stDiffers = (same-prices-to 450 (500 at 4000 ∷ (200 at 5000 ∷ [])) (450 at 4000 ∷ (300 at 5000 ∷ [])) ≡ true)
+    × (same-prices-to 451 (500 at 4000 ∷ (200 at 5000 ∷ [])) (450 at 4000 ∷ (300 at 5000 ∷ [])) ≡ false)
+
+-- 20: one word too few, a limit too high, a lowest price above 0, no services; and an opening at each edge.
+abbrev opening-of : ℕ → ℤ → ℤ → ℕ → ℕ
+opening-of words S lowest highest =
+    opening-number (replicate words (pos 0)) (pos 1) S (lowest ∷ (pos 450000 ∷ (pos 450000 ∷ (pos 450000 ∷ (pos 450000 ∷ (pos highest ∷ []))))))
+
+unfoldable pub Openings : Type 0
+Openings = (opening-of 16224 (pos 1) (pos 0) 10000000 ≡ 0) × (opening-of 16223 (pos 1) (pos 0) 10000000 ≡ 20) × (opening-of 16224 (pos 1) (pos 0) 10000001 ≡ 20)
+    × (opening-of 16224 (pos 1) (pos 1) 10000000 ≡ 20) × (opening-of 16224 (pos 1) (negsuc 9999999) 0 ≡ 0) × (opening-of 16224 (pos 1) (negsuc 10000000) 0 ≡ 20)
+    × (opening-of 16224 (pos 0) (pos 0) 0 ≡ 20) × (opening-of 16224 (pos 5) (pos 0) 0 ≡ 20)
 
 -- Words 2 and 3 of a look-up of period 4: as they were filed, and "quotient and remainder rounded toward zero" of −12,345.
 abbrev ramps-shown : List ℤ → List (List ℕ) → List ℤ

@@ -1,6 +1,6 @@
 -- Records of 112 bytes, written from their fields.
 use mathlib.Core.List.{List, [], _∷_, _++_}
-use Prim.Native.Nat.{ℕ, _*_, _-_, _/_, _%_}
+use Prim.Native.Nat.{ℕ, _+_, _*_, _-_, _/_, _%_}
 use lib.IntN.{ℤ, pos, negsuc}
 use lib.ListN.{length, take, drop, replicate}
 use Rattle.offer_rules.specs.Offer.{Pair}
@@ -58,22 +58,37 @@ standing-for service slot offer = record-bytes 3 0 service (pos slot) 0 (pos 0) 
 abbrev pub standing : ℕ → List Pair → List ℕ
 standing = standing-for 0
 
--- A record with this reason.
+-- A record with another byte at a place; with a reason; of another facility; with a proportion.
+abbrev pub with-byte : ℕ → ℕ → List ℕ → List ℕ
+with-byte i x r = take i r ++ (x ∷ drop (i + 1) r)
+
 abbrev pub with-reason : ℕ → List ℕ → List ℕ
-with-reason reason r = take 12 r ++ (reason ∷ drop 13 r)
+with-reason = with-byte 12
+
+abbrev pub of-facility : ℕ → List ℕ → List ℕ
+of-facility = with-byte 6
+
+abbrev pub with-proportion : ℕ → List ℕ → List ℕ
+with-proportion n r = with-byte 14 (n / 256) (with-byte 15 (n % 256) r)
 
 -- A record with this ramp-up rate.
 abbrev pub ramping : ℕ → List ℕ → List ℕ
 ramping rate r = take 16 r ++ (word-bytes (pos rate) ++ drop 20 r)
 
+abbrev pub variation-for : ℕ → ℕ → ℕ → List Pair → List ℕ
+variation-for service period reason offer = record-bytes 4 0 service (pos period) reason (pos 0) (pos 0) (pair-words offer)
+
 abbrev pub variation : ℕ → ℕ → List Pair → List ℕ
-variation period reason offer = record-bytes 4 0 0 (pos period) reason (pos 0) (pos 0) (pair-words offer)
+variation = variation-for 0
 
 abbrev pub outage : ℕ → ℕ → List ℕ
 outage minute count = record-bytes 5 0 0 (pos 0) 0 (pos minute) (pos count) []
 
 abbrev pub notice : ℕ → ℕ → ℕ → List ℕ
 notice kind first last = record-bytes 6 0 0 (pos 0) kind (pos first) (pos last) []
+
+abbrev pub withdrawal : List ℕ
+withdrawal = record-bytes 7 0 0 (pos 0) 5 (pos 0) (pos 0) []
 
 abbrev pub look-up-for : ℕ → ℕ → List ℕ
 look-up-for service period = record-bytes 8 0 service (pos period) 0 (pos 0) (pos 0) []

@@ -52,17 +52,17 @@ fn kind_row(kind: i32) -> Kind
             known: true,
             offers: Range { first: 0, last: 0 },
             marks: Range { first: 0, last: 0 },
-            reasons: Range { first: 3, last: 5 },
+            reasons: Range { first: 3, last: 5 }, // "1, 2 and 6 are not"
             longest_outage: 0,
             proportion_tested: false,
         },
-        // no kind
+        // no kind: what is asked whatever the kind; 5, or in call 2 the kind's own 8, is drawn
         _ => Kind {
             known: false,
-            offers: Range { first: 1, last: 0 },
-            marks: Range { first: 1, last: 0 },
-            reasons: Range { first: 1, last: 0 },
-            longest_outage: 0,
+            offers: Range { first: 0, last: 4 },
+            marks: Range { first: 0, last: 4 },
+            reasons: Range { first: 3, last: 5 },
+            longest_outage: 3,
             proportion_tested: false,
         },
     }

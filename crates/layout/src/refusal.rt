@@ -39,7 +39,7 @@ pub const BLANK_REFUSED: u8 = 12;
 // "prices of non-blank pairs not strictly rising"
 pub const PRICES_DONT_RISE: u8 = 13;
 
-// "energy ramp outside 0 to its maximum"
+// "energy ramp outside 0 to its maximum"; "also covers a ramp above 9,999"
 pub const RAMP_REFUSED: u8 = 14;
 
 // "generation reserve: proportion 0 or above its maximum"

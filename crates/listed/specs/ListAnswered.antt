@@ -1,4 +1,4 @@
--- Document 01, demand 3, of running code: what `answer_list` gives for lent words, records and room for answers.
+-- Demand 3, of running code: what `answer_list` gives for lent words, records and room for answers.
 -- Its answers are the list machine's (book_rules, specs/ListMachine), which has no table.
 use mathlib.Core.Path.{_≡_}
 use mathlib.Core.Bool.{cond}

@@ -1,5 +1,5 @@
 // A list of records in one go: a book is opened in lent words, the records are called on it one after another, and their answers written.
-// Document 01, demand 3, as the promise of a function: the answers are the list machine's.
+// Demand 3, as the promise of a function: the answers are the list machine's.
 ghost use mathlib.Core.Path.{_≡_};
 ghost use mathlib.Core.List.{[], _∷_, _++_};
 ghost use Prim.Native.Nat.{_*_, _≤_, min};

@@ -7,7 +7,7 @@ use native.Mathlib.Omega.{arith}
 use lib.IntN.{ℤ, pos, negsuc}
 use borrow.Author.Tests.{leb-true, leb-false, lt-leb}
 use Rattle.offer_rules.specs.Numbers.{toNat}
-use Rattle.offer_rules.specs.Time.{start-of, slots, slot-of, horizon-end, slot-refused, has-begun, past-horizon, period-refused, IsNext, first-not-begun, next-period, NextIsLeast}
+use Rattle.offer_rules.specs.Time.{start-of, slots, slot-of, horizon-end, slot-refused, has-begun, past-horizon, period-refused, IsNext, first-not-begun, next-period, NextIsLeast, NextIsOne}
 use Rattle.offer_rules.proofs.Drawn.{or-left, or-right}
 use Rattle.offer_rules.proofs.Ranges.{within}
 
@@ -73,11 +73,14 @@ unfolding next-period
 next-is-least now k h = counted-least _ now k _ (omega arith) (λ q e a. omega arith) (omega arith)
 
 -- and no other period is.
-pub next-is-one : (now k p : ℕ) → IsNext now k p → p ≡ next-period now k
+pub next-is-one : NextIsOne
 next-is-one now k p n = one (next-is-least now k (omega (arith, n .of-the-slot)))
   where
     one : IsNext now k (next-period now k) → p ≡ next-period now k
     one m = omega (arith, n .least _ (m .of-the-slot) (m .not-begun), m .least p (n .of-the-slot) (n .not-begun))
+
+pub settled : (now k p : ℕ) → IsNext now k p → (p ≡ next-period now k) × IsNext now k p
+settled now k p n = (next-is-one now k p n, n)
 
 -- By remainders: how far the slot lies after the first period not yet begun.
 pub next-by-remainders : (now k : ℕ) → k < slots → next-period now k ≡ now / 30 + 1 + (k + slots - slot-of (now / 30 + 1)) % slots

@@ -47,7 +47,7 @@ pub record Grounds : Type 0 where
   pub shortfall : Window
   pub status : Window
 
--- What each reason asks. Of the kind, 1 and 2 "generation", 6 "load", for a link 3 to 5: Kinds, `admits`. Of service s, "3 service 0":
+-- What each reason asks. Of the kind, 1 and 2 "generation", 6 "load", 3 to 5 any, a link's too: Kinds, `admits`. Of service s, "3 service 0":
 unfoldable pub admits-service : ℕ → ℕ → Bool
 admits-service s reason = cond (eqb reason 3) (is-energy s) true
 

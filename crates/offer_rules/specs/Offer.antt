@@ -21,7 +21,7 @@ pairs-in [] = []
 pairs-in (p ∷ []) = []
 pairs-in (p ∷ (q ∷ l)) = record { price = p; quantity = q } ∷ pairs-in l
 
--- An offer is 23 words: proportion, ramp up, ramp down, ten pairs. What a service doesn't use is zero.
+-- An offer is 23 words: proportion, ramp up, ramp down, ten pairs. In a filed one, what its service doesn't use is zero (refusal 4).
 abbrev pub proportion : List ℤ → ℤ
 proportion o = word o 0
 

@@ -35,7 +35,7 @@ horizon-days = 7
 abbrev pub horizon-end : ℕ → ℕ
 horizon-end now = periods-a-day * (day-of now + horizon-days)
 
--- Refusal 10: "slot outside 0–335".
+-- Refusal 10: "slot outside 0–335", the last of `slots`.
 abbrev pub slot-refused : ℤ → Bool
 slot-refused k = beyond (pos 0) (pos 335) k
 
@@ -76,3 +76,7 @@ next-period now k = first-not-begun (suc now) now k
 -- "For every slot 0 to 335 and minute .. it gives the least": what is counted is what the sentence asks (proofs/Periods, next-is-least).
 abbrev pub NextIsLeast : Type 0
 NextIsLeast = (now k : ℕ) → k < slots → IsNext now k (next-period now k)
+
+-- And no other period is: the sentence settles it (proofs/Periods, next-is-one).
+abbrev pub NextIsOne : Type 0
+NextIsOne = (now k p : ℕ) → IsNext now k p → p ≡ next-period now k

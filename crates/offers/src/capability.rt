@@ -36,7 +36,7 @@ fn is_ramp_beyond(maximum: Ramp, ramp: Ramp) -> bool
     is_beyond(0, maximum.0, ramp.0) | (offer::MOST_RAMP < ramp.0)
 }
 
-// "energy ramp outside 0 to its maximum"
+// "energy ramp outside 0 to its maximum"; "also covers a ramp above 9,999"
 pub fn is_ramp_refused(capability: &[i32], service: u8, offer: &[i32]) -> bool
     requires { ⌜ (length (now capability) ≡ 17) × (length (now offer) ≡ 23) ⌝ }
     ensures { λ r. ⌜ r ≡ ramp-refused (now (capability .entry)) service (now (offer .entry)) ⌝ }

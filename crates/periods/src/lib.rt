@@ -1,5 +1,6 @@
 // Units and time: a slot's next period, for the gate and for C.
-ghost use Rattle.offer_rules.specs.Time.{slot-of, IsNext};
+ghost use mathlib.Core.Path.{_≡_};
+ghost use Rattle.offer_rules.specs.Time.{slot-of, IsNext, next-period};
 use layout::time;
 
 // "the least period of that slot not yet begun", "by remainder arithmetic alone": 335·first is 336·first − first, so the remainder is how many periods the
@@ -7,7 +8,7 @@ use layout::time;
 // conditional move. A slot of 336 or more is taken mod 336.
 #[no_mangle]
 pub extern "C" fn bilzhaan_next_period(minute: u32, slot: u32) -> u32
-    ensures { λ r. ⌜ IsNext minute (slot-of slot) r ⌝ }
+    ensures { λ r. ⌜ (r ≡ next-period minute (slot-of slot)) × IsNext minute (slot-of slot) r ⌝ }
 {
     let first = minute as u64 / time::PERIOD_MINUTES + 1;
     (first + (slot as u64 + (time::SLOTS - 1) * first) % time::SLOTS) as u32

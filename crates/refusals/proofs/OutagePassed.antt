@@ -25,7 +25,7 @@ unfolding kind-row
 most-48 kind n =
     each-kind (λ z. ltZ (kind-row z .longest-outage) n ≡ false → toNat n ≤ 48)
     (λ e. omega (arith, not-above 3 n e)) (λ e. not-above 48 n e) (λ e. omega (arith, not-above 0 n e))
-    (λ z none a b c e. omega (arith, not-above 0 n (rw none at e))) kind
+    (λ z none a b c e. omega (arith, not-above 3 n (rw none at e))) kind
 
 module _ (now : ℕ) (c : List ℤ) (m n : ℤ) where
   pub outage-passed : outage-number now c m n ≡ 0 → (toNat m ≤ now) × (toNat n ≤ 48)

@@ -1,8 +1,8 @@
--- next_period: the promise of the step, for the clock that the book holds; only one period keeps it.
+-- next_period: the promise of the step, for the clock that the book holds.
 use mathlib.Core.Path.{_≡_, _∙_, ap₂}
 use native.Mathlib.Omega.{arith}
 use Rattle.offer_rules.specs.Time.{slot-of, next-period}
-use Rattle.offer_rules.proofs.Periods.{next-is-one, next-is-near}
+use Rattle.offer_rules.proofs.Periods.{next-is-near}
 use borrow.Author.Needs.{needs}
 use Rattle.judging.proofs.next_period.Statement.{statement}
 use Rattle.judging.proofs.next_period.Tie as tie
@@ -27,7 +27,7 @@ returns c =
     let s = c .before .before in
     let next = c .bilzhaan-next-period .ensures in
     let own : slot-of (s .args .slot) ≡ s .args .slot = omega (arith, s .pre .1) in
-    (next-is-one _ _ _ next ∙ ap₂ next-period (c .before .clock .ensures .0) own, omega (arith, next-is-near _ _ _ next, c .before .clock .ensures .1))
+    (next .0 ∙ ap₂ next-period (c .before .clock .ensures .0) own, omega (arith, next-is-near _ _ _ (next .1), c .before .clock .ensures .1))
 
 pub next-period-spec : {M : Type 1} → statement M
 next-period-spec =

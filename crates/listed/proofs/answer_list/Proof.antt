@@ -7,10 +7,10 @@ use mir.Facts.{toZ-ofZ}
 use borrow.Author.Tests.{ne-eqb}
 use borrow.Author.Needs.{needs}
 use Rattle.offer_rules.specs.Numbers.{toNat}
-use Rattle.book_rules.specs.Words.{opening-number, opening-words}
 use Rattle.book_rules.specs.Book.{book-answers, book-run}
 use Rattle.book_rules.specs.ListMachine.{list-answers}
 use Rattle.book_rules.specs.Claims.{EveryList}
+use Rattle.book_rules.specs.ContractedRun.{Opens}
 use Rattle.book_rules.proofs.EveryCall.{every-list}
 use Rattle.listed.specs.ListAnswered.{chopped, flat, count-answered}
 use Rattle.listed.proofs.answer_list.Statement.{statement}
@@ -22,11 +22,12 @@ open-requires c κs = search needs
 abbrev start : tie.After-open → tie.Start
 start c = c .before .before .before
 
--- the number and the words of the opening
+-- The opening keeps the contract that every run is about.
 opened : (c : tie.After-open)
-    → (c .«open» .result ≡ opening-number (start c .args .words .now) (start c .args .facilities) (start c .args .services) (start c .args .limits))
-    × (c .«open» .last .0 ≡ opening-words (start c .args .words .now) (start c .args .facilities) (start c .args .services) (start c .args .limits))
-opened c = rw (toZ-ofZ {w = w32} (start c .fits .facilities), toZ-ofZ {w = w32} (start c .fits .services)) at (c .«open» .ensures)
+    → Opens (start c .args .words .now) (start c .args .facilities) (start c .args .services) (start c .args .limits) (c .«open» .result) (c .«open» .last .0)
+opened c =
+    let e = rw (toZ-ofZ {w = w32} (start c .fits .facilities), toZ-ofZ {w = w32} (start c .fits .services)) at (c .«open» .ensures) in
+    record { number-is = e .0; words-are = e .1 }
 
 same-length : tie.Need-same-length
 same-length c = search needs
@@ -35,10 +36,10 @@ returns : tie.Need-returns
 unfolding count-answered chopped flat list-answers book-run
 returns c =
     let o = c .before .before in record {
-      number-is = opened o .0;
+      number-is = opened o .number-is;
       count-is = rw (ne-eqb (o .«open» .result) 0 (λ e. omega arith));
       answers-are = refl;
-      words-are = opened o .1;
+      words-are = opened o .words-are;
     }
 
 smaller-requires : tie.Need-smaller-requires
@@ -64,11 +65,11 @@ returns-2 c =
     let records = chopped (n .result) (a .records .now) in
     let none : o .«open» .result ≡ 0 = omega arith in
     let agree : book-answers (o .«open» .last .0) records ≡ list-answers (toNat (a .facilities)) (toNat (a .services)) (a .limits) [] records =
-    ap (λ (v : List ℤ). book-answers v records) (opened o .1) ∙ every-list w (a .facilities) (a .services) (a .limits) (search needs) (sym (opened o .0) ∙ none) records in record {
-      number-is = opened o .0;
+    ap (λ (v : List ℤ). book-answers v records) (opened o .words-are) ∙ every-list w (a .facilities) (a .services) (a .limits) (search needs) (sym (opened o .number-is) ∙ none) records in record {
+      number-is = opened o .number-is;
       count-is = rw none (n .ensures);
       answers-are = rw (← agree) (called .ensures .0);
-      words-are = called .ensures .1 ∙ ap (λ (v : List ℤ). book-run v records) (opened o .1);
+      words-are = called .ensures .1 ∙ ap (λ (v : List ℤ). book-run v records) (opened o .words-are);
     }
 
 pub answer-list-spec : {M : Type 1} → statement M

@@ -5,6 +5,7 @@ use mir.Syntax.{w64}
 use mir.Val.{toZ, ofZ, SFits}
 use mir.Facts.{toZ-ofZ}
 use borrow.Author.Needs.{needs}
+use Rattle.book_rules.specs.ContractedRun.{Calls}
 use Rattle.cells.specs.Meaning.{answer-of}
 use Rattle.listed.specs.ListAnswered.{numbers-of}
 use Rattle.listed.proofs.answer_record.Statement.{statement}
@@ -18,6 +19,10 @@ slice-aggregate-write-numbers c = search needs
 
 write-numbers-requires : tie.Need-write-numbers-requires
 write-numbers-requires c κs = search needs
+
+-- The call keeps the contract that every run is about.
+kept : (c : tie.After-call) → Calls (c .before .args .words .now) (c .before .args .bytes .now) (answer-of (c .call .result)) (c .call .last .0)
+kept c = record { answer-is = c .call .ensures .0; words-are = c .call .ensures .1 }
 
 -- What is written: the answer's number, words and sum, of which a local holds the bits.
 written : (c : tie.After-write-numbers) →
@@ -34,11 +39,11 @@ same-length-2 c = search needs
 returns : tie.Need-returns
 unfolding numbers-of
 returns c =
-    let called = c .before .before .before .before .before .before .before .call in
-    let answer = called .result in
+    let called = c .before .before .before .before .before .before .before in
+    let answer = called .call .result in
     let fits : SFits w64 (answer .sum) = search needs in
     let numbers : c .before .write-numbers .last .0 ≡ numbers-of (answer-of answer) = rw (toZ-ofZ {w = w64} fits) at (written (c .before)) in
-    (numbers ∙ ap numbers-of (called .ensures .0), called .ensures .1)
+    (numbers ∙ ap numbers-of (kept called .answer-is), kept called .words-are)
 
 pub answer-record-spec : {M : Type 1} → statement M
 answer-record-spec =

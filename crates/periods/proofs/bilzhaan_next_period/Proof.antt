@@ -1,6 +1,6 @@
 -- bilzhaan_next_period: of the slot, not begun, the least, each from the remainders.
 use native.Mathlib.Omega.{arith}
-use Rattle.offer_rules.proofs.Periods.{starts-next}
+use Rattle.offer_rules.proofs.Periods.{starts-next, settled}
 use borrow.Author.Needs.{needs}
 use Rattle.periods.proofs.bilzhaan_next_period.Statement.{statement}
 use Rattle.periods.proofs.bilzhaan_next_period.Tie as tie
@@ -24,7 +24,7 @@ cast-result : tie.Need-cast-result
 cast-result c = search needs
 
 returns : tie.Need-returns
-returns c = starts-next _ _ _ (omega arith) (omega arith) (λ q e a. omega arith)
+returns c = settled _ _ _ (starts-next _ _ _ (omega arith) (omega arith) (λ q e a. omega arith))
 
 pub bilzhaan-next-period-spec : {M : Type 1} → statement M
 bilzhaan-next-period-spec =
