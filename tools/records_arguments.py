@@ -13,7 +13,7 @@ TOP = '''\
 usage: records.py COMMAND ..
 
 Makes and explains records of the half-hour offer book. A record is 112 bytes, so it goes to a
-file or a pipe, or with --hex to the screen. Nothing is filed: give the records to the program.
+file or a pipe, or with --hex to the screen. Nothing is filed: target/bin/offer_book reads records.
 
 {commands}
 
@@ -206,7 +206,7 @@ def add_call_options(name, parser):
             f"; a {kind.name}'s: {', '.join(SERVICES[s] for s in kind.marks)}" for kind in KINDS.values() if len(kind.marks) < len(SERVICES)))
         parser.epilog = "A link's import capacity is its generation maximum; the combined one binds its energy as well."
     if name in ('standing', 'variation'):
-        asked = 'asked for inside the gate' + (', over a held offer' if name == 'standing' else '')
+        asked = "needed less than 65 minutes before the " + ("slot's next period, over a held offer" if name == 'standing' else 'period')
         parser.add_argument('--reason', type=reason, action=Once, metavar='R', help=', '.join(REASONS) + f', or 0 to 6; {asked}')
     if name in ('notice', 'withdrawal'):
         parser.add_argument('--kind', type=notice, action=Once, required=name == 'notice', metavar='KIND',
@@ -229,7 +229,7 @@ def add_explain_options(parser):
     parser.add_argument('--facilities', type=word, action=Once, metavar='F', help="the book's F, 64 if left out")
     parser.add_argument('--services', type=word, action=Once, metavar='S', help="the book's S, 5 if left out")
     parser.add_argument('--strict', action='store_true',
-                        help='status 1 where the record test refuses a record, or no book gives an answer')
+                        help='exit status 1 where the record test refuses a record, or an answer is one that no book gives')
     parser.add_argument('--whole', action='store_true', help='take FILE as one record, whatever its length')
     parser.add_argument('--record', metavar='HEX', action=Once, help='one record in hex digits, in place of FILE')
     parser.add_argument('--answer', nargs='+', metavar='N', action=Once, help='an answer alone: number, word 0, sum; or number, 24 words, sum')

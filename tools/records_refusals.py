@@ -12,7 +12,8 @@ TELL = 'Nothing in the filing. Tell whoever runs the gateway.'
 REFUSALS = {
     1: Refusal('book unusable', 'too few words, or mark, version, F, S or clock wrong', HOST,
                'The words lent are no usable book: fewer than 64, mark or version wrong, F not 1 to 64, S not 1 or 5, fewer words than F and S need,'
-               ' or a clock outside 0 to 1,000,000,000.', TELL + ' After an update: a book of version 1, whose offers are filed again.'),
+               ' or a clock outside 0 to 1,000,000,000.', TELL
+               + ' After an update of the library it may be a book of version 1; its offers are filed again, in a new book.'),
     2: Refusal('not a record', 'not 112 bytes, or mark, version or call wrong', HOST,
                'Not a record: not 112 bytes, or mark, version or call (1 to 9) wrong.', 'The sending program or the line.'),
     3: Refusal('not in book', 'facility F or above, or service S or above, where used', SENDER,

@@ -259,6 +259,22 @@ def totals_at_the_maxima(t):
     t.words()
 
 
+def combined_maximum(t):
+    """The combined maximum is held against energy's own total: reserve and regulation of the same period neither add to it nor are tested by it."""
+    t.open(1, 5)
+    t.call(capability(0, GENERATION))
+    both(t, 0, 0, 60, [(1, 800)], 0)
+    for s, most in ((1, 300), (2, 310), (3, 320)):
+        both(t, 0, s, 60, [(1, most)], 0, proportion=1)
+    both(t, 0, 4, 60, [(1, 200)], 0)
+    both(t, 0, 0, 60, [(2, 800)], 0)
+    t.call(capability(0, with_words(GENERATION, {2: 0})))
+    both(t, 0, 0, 61, [(1, 1)], 16)
+    both(t, 0, 1, 61, [(1, 300)], 0, proportion=1)
+    both(t, 0, 4, 61, [(1, 200)], 0)
+    t.words()
+
+
 def energy_offer_mended(t):
     """An energy offer with everything wrong, mended one thing at a time: the numbers rise from 2 to 0, standing offer and variation."""
     worst, apart, fallen, high, good = [(450001, 801), (7, 0), (5, 4)], [(6, 801), None, (5, 4)], [(6, 801), (5, 4)], [(4, 801), (5, 4)], [(4, 796), (5, 4)]

@@ -4,7 +4,7 @@ Each line is written with the number that the papers give it, and each look-up a
 author read them. make.py compares them with the answers.
 """
 
-LEVEL = 7  # document 02's requests up to K7
+LEVEL = 7  # the first seven requests of document 02
 
 LIMITS = (-450000, 450000, 400000, 400001, 400002, 400003)
 
