@@ -13,7 +13,7 @@ TOP = '''\
 usage: records.py COMMAND ..
 
 Makes and explains records of the half-hour offer book. A record is 112 bytes, so it goes to a
-file or a pipe, or with --hex to the screen. Nothing is filed: target/bin/offer_book reads records.
+file or a pipe, or with --hex to the screen; the program target/bin/offer_book files them.
 
 {commands}
 
