@@ -167,7 +167,7 @@ enum {
     /* any sender */
     BILZHAAN_NOT_IN_BOOK = 3,          /* facility F or above, or service S or above, where used */
     BILZHAAN_UNUSED_BYTE = 4,          /* an unused byte not zero */
-    BILZHAAN_NO_KIND = 5,              /* the facility has no capability yet */
+    BILZHAAN_NO_KIND = 5,              /* the facility has no kind: no capability yet, or damaged words */
     /* clock and system operator */
     BILZHAAN_CLOCK_REFUSED = 6,        /* minute below the clock or above 1,000,000,000 */
     BILZHAAN_NOTICE_REFUSED = 7,       /* outage, notice or withdrawal out of range; any outage of a link */

@@ -20,7 +20,7 @@ REFUSALS = {
                'Facility not below F or service not below S, where the call uses it.', 'Facility or service number.'),
     4: Refusal('unused byte', 'an unused byte not zero', SENDER,
                "A byte that the call, or the offer's service, does not use is not zero.", 'Clear it.'),
-    5: Refusal('no kind', 'the facility has no capability yet', SENDER,
+    5: Refusal('no kind', 'the facility has no kind: no capability yet, or damaged words', SENDER,
                'The facility has no kind: no capability was accepted for it (calls 3, 4, 5, 8).',
                'The facility number; or have its capability filed first.'),
     6: Refusal('clock refused', 'minute below the clock or above 1,000,000,000', 'the clock',
