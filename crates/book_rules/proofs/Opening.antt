@@ -24,10 +24,14 @@ zero-words zero i = refl
 zero-words (suc n) zero = refl
 zero-words (suc n) (suc i) = zero-words n i
 
-length-facilities : (n : ℕ) → length (empty-facilities n) ≡ 32 * n
+pub length-facilities : (n : ℕ) → length (empty-facilities n) ≡ 32 * n
 unfolding empty-facilities empty-facility
 length-facilities zero = refl
 length-facilities (suc n) = let h = length-facilities n in simp length-append (omega arith)
+
+pub length-head : (F S : ℕ) (limits : List ℤ) → length limits ≡ 6 → length (opening-head F S limits) ≡ 64
+unfolding opening-head
+length-head F S limits six = simp (length-append, length-replicate) (omega arith)
 
 -- A part of a facility's words.
 part-of-facility : (n f i m : ℕ) (t : List ℤ) → f < n → i + m ≤ 32 → take m (drop (32 * f + i) (empty-facilities n ++ t)) ≡ take m (drop i empty-facility)
@@ -52,18 +56,14 @@ module _ (F S : ℕ) (limits past : List ℤ) (six : length limits ≡ 6) where
   cells : List ℤ
   cells = zeros (16128 * (F * S)) ++ past
 
-  length-head : length (opening-head F S limits) ≡ 64
-  unfolding opening-head
-  length-head = simp (length-append, length-replicate) (omega arith)
-
   length-opened : book-size F S ≤ length (opened F S limits past)
   unfolding book-size opened
-  length-opened = simp (length-append, length-replicate, length-head, length-facilities) (omega arith)
+  length-opened = simp (length-append, length-replicate, length-head F S limits six, length-facilities) (omega arith)
 
   part-past-head : (j m : ℕ) → take m (drop (64 + j) (opened F S limits past)) ≡ take m (drop j (empty-facilities F ++ cells))
   unfolding opened cells
   part-past-head j m =
-      let e = length-head in
+      let e = length-head F S limits six in
       let i : 64 + j ≡ length (opening-head F S limits) + j = omega arith in
       ap (λ (x : ℕ). take m (drop x (opened F S limits past))) i
       ∙ ap (take m) (drop-append-add (opening-head F S limits) (empty-facilities F ++ cells) j)
@@ -85,7 +85,7 @@ module _ (F S : ℕ) (limits past : List ℤ) (six : length limits ≡ 6) where
       let n = ((f * S + s) * 2 + h) * 336 + k in
       let a = 64 + 32 * F + 24 * n in
       let inside = cell-inside F S f s h k hf hs hh hk in
-      let eh = length-head in
+      let eh = length-head F S limits six in
       let ef = length-facilities F in
       let all : opened F S limits past ≡ (opening-head F S limits ++ empty-facilities F) ++ cells = sym (append-assoc (opening-head F S limits) (empty-facilities F) cells) in
       let j : a + 0 ≡ length (opening-head F S limits ++ empty-facilities F) + 24 * n = simp length-append (omega arith) in
