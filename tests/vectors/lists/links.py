@@ -1,6 +1,6 @@
 """The import link, kind 3: its capability, outages and offers by service, the reasons open to it, readings, and damaged books; beside generation and load."""
-from .form import (GENERATION, LEAST, LINK, LOAD, MOST, block, both, capability, cell, clock, filler, look_up, notice, outage, pairs_at, standing, total,
-                   variation, with_bytes, with_words, withdrawal)
+from .form import (GENERATION, LEAST, LINK, LOAD, MOST, block, both, capability, cell, clock, filler, look_up, notice, notices_over_100, outage, pairs_at,
+                   standing, total, variation, with_bytes, with_words)
 
 BARE = (0,) * 17  # no kind, no maximum, no mark
 
@@ -256,20 +256,12 @@ def notices_of_a_link(t):
     t.call(capability(0, LINK))
     t.call(standing(0, 0, 100, [(1, 50)]))
     t.call(clock(2950))
-    for reason, quantity, back in ((3, 40, 5), (4, 60, 3), (5, 60, 3)):
-        t.call(variation(0, 0, 100, [(1, quantity)], reason), 17)
-        for first, last, number in ((99, 99, 17), (101, 101, 17), (0, 99, 17), (101, 40_000_000, 17), (100, 100, 0), (99, 101, 0)):
-            t.call(notice(reason, first, last))
-            t.call(variation(0, 0, 100, [(1, quantity)], reason), number)
-            if number == 0:
-                t.call(notice(back, 100, 100))
-                t.call(variation(0, 0, 100, [], back))
-                t.call(look_up(0, 0, 100), 0, 1, 50)
-                t.call(notice(back, 1, 2))
-        t.call(notice(reason, 1, 2))
-    t.call(notice(5, 100, 100))
-    t.call(withdrawal())
-    t.call(variation(0, 0, 100, [(1, 60)], 5), 17)
+
+    def back_again(reason):
+        t.call(variation(0, 0, 100, [], reason))
+        t.call(look_up(0, 0, 100), 0, 1, 50)
+
+    notices_over_100(t, lambda pairs, reason: variation(0, 0, 100, pairs, reason), ((3, 40, 5), (4, 60, 3), (5, 60, 3)), back_again)
     t.words()
 
 

@@ -1,6 +1,6 @@
 """Reasons of standing offers: a standing offer over a held one inside 65 minutes of its slot's next period, judged as a variation is."""
-from .form import (GENERATION, LEAST, LINK, LOAD, MOST, STANDING_AT, VARIATION_AT, block, capability, clock, filler, look_up, notice, one_of_each, outage, pairs_at,
-                   standing, total, variation, with_bytes, with_words, withdrawal)
+from .form import (GENERATION, LEAST, LINK, LOAD, MOST, STANDING_AT, VARIATION_AT, block, capability, clock, filler, look_up, notice, notices_over_100, one_of_each,
+                   outage, pairs_at, standing, total, variation, with_bytes, with_words)
 
 HELD = [(4000, 500), (5000, 200)]
 
@@ -161,21 +161,13 @@ def notices_over_the_next_period(t):
     t.call(capability(0, GENERATION))
     t.call(standing(0, 0, 100, [(1, 50)]))
     t.call(clock(2950))
-    for reason, quantity, back in ((3, 40, 4), (4, 60, 3), (5, 60, 3)):
-        t.call(_again(0, 0, 100, [(1, quantity)], reason), 17)
-        for first, last, number in ((99, 99, 17), (101, 101, 17), (0, 99, 17), (101, 40_000_000, 17), (100, 100, 0), (99, 101, 0)):
-            t.call(notice(reason, first, last))
-            t.call(_again(0, 0, 100, [(1, quantity)], reason), number)
-            if number == 0:
-                t.call(notice(back, 100, 100))
-                t.call(_again(0, 0, 100, [(1, 50)], back))
-                t.call(notice(back, 1, 2))
-        t.call(notice(reason, 1, 2))
+
+    def filed(pairs, reason):
+        return _again(0, 0, 100, pairs, reason)
+
+    notices_over_100(t, filed, ((3, 40, 4), (4, 60, 3), (5, 60, 3)), lambda reason: t.call(filed([(1, 50)], reason)))
     t.call(notice(5, 100, 100))
-    t.call(withdrawal())
-    t.call(_again(0, 0, 100, [(1, 60)], 5), 17)
-    t.call(notice(5, 100, 100))
-    t.call(_again(0, 0, 100, [(1, 60)], 5))
+    t.call(filed([(1, 60)], 5))
     t.words()
 
 
