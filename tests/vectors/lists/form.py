@@ -127,6 +127,19 @@ def one_of_each(period=100, slot=100):
 
 # ---- calls that lists share ----
 
+def of_each_kind(t):
+    """Facility 0 is a generation, 1 a load and 2 a link."""
+    t.open(3, 5)
+    for f, w in enumerate((GENERATION, LOAD, LINK)):
+        t.call(capability(f, w))
+
+
+def notices(t, first, last):
+    """Every notice, over these periods."""
+    for kind in (3, 4, 5):
+        t.call(notice(kind, first, last))
+
+
 def notices_over_100(t, filed, backs, back_again):
     """Over 50 tenths, inside the gate of period 100: `filed` with reasons 3, 4 and 5 without the notice, with it before, after and over the period, of another
     kind, and withdrawn; `backs` are reason, tenths, and the reason by which `back_again` restores the 50."""
