@@ -1,16 +1,11 @@
 -- What refusals 1 to 4 leave to a call: a usable book, 112 bytes, a call from 1 to 9, and that what it names lies in the book.
 use mathlib.Core.Path.{_≡_, refl, sym, ap, _∙_}
-use mathlib.Core.Bool.{Bool, true, false, not, _&&_}
+use mathlib.Core.Bool.{Bool, true, false}
 use mathlib.Core.List.{List}
 use Prim.Native.Nat.{ℕ, _<_}
 use native.Mathlib.Omega.{arith}
-use lib.Dec.{eqb}
 use lib.IntN.{ℤ}
-use lib.ListN.{length}
-use borrow.Author.Tests.{eqb-true, not-false}
-use Rattle.offer_rules.specs.Numbers.{between}
-use Rattle.offer_rules.proofs.Drawn.{and-left, then-zero, draw-zero}
-use Rattle.book_rules.specs.Record.{byte, call-of, service-of, uses, is-record, record-number}
+use Rattle.book_rules.specs.Record.{call-of, service-of, uses, record-number}
 use Rattle.book_rules.specs.Words.{book-size, is-book}
 use Rattle.book_rules.specs.Force.{plain}
 use Rattle.book_rules.specs.Book.{facilities-in, services-in}
@@ -40,15 +35,6 @@ usable w e =
       timely = u .most-clock;
     }
 
--- Refusal 2 turns down all but 112 bytes.
-length-is : (b : List ℕ) (F S : ℕ) → record-number b F S ≡ 0 → length b ≡ 112
-unfolding record-number is-record
-length-is b F S e =
-    let head = (eqb (byte b 0) 83 && eqb (byte b 1) 79) && eqb (byte b 2) 66 in
-    let rest = (eqb (byte b 3) 0 && eqb (byte b 4) 1) && between 1 9 (call-of b) in
-    let r = not-false (is-record b) (draw-zero (not (is-record b)) 2 (omega arith) (then-zero _ _ e .0)) in
-    eqb-true (length b) 112 (and-left (eqb (length b) 112) head (and-left (eqb (length b) 112 && head) rest r))
-
 -- A number is drawn: it is answered alone, and nothing is written.
 pub turned-down : (w : List ℤ) (b : List ℕ) (n : ℕ) → n ≡ tested-number w b → (n ≡ 0 → ⊥) → Answers w b (plain n) w
 turned-down w b n e h = go (is-book w) refl
@@ -70,7 +56,7 @@ passed w b e = go (is-book w) refl
     go : (t : Bool) → is-book w ≡ t → Tested w b
     go true u =
         let z : record-number b (facilities-in w) (services-in w) ≡ 0 = sym (e ∙ rw u) in
-        record { usable = usable w u; is-taken = z; long = length-is b (facilities-in w) (services-in w) z }
+        record { usable = usable w u; is-taken = z; long = named (facilities-in w) (services-in w) b z .long }
     go false u = let z : _≡_ {A = ℕ} 0 1 = e ∙ rw u in absurd (omega arith)
 
 -- ---- what the call names

@@ -8,7 +8,7 @@ use lib.Dec.{leb}
 use lib.IntN.{ℤ, pos, negsuc}
 use lib.ListN.{length, getD, take, drop, replicate, length-replicate, length-append, length-drop, List·getD-append}
 use lib.Seq.{take-at, drop-append-add, drop-append-le, take-append-le, getD-append-add, getD-take, getD-drop}
-use borrow.Author.Tests.{not-false}
+use borrow.Author.Tests.{leb-true, not-false}
 use Rattle.offer_rules.specs.Numbers.{toNat, word, zeros}
 use Rattle.offer_rules.specs.Time.{slot-of}
 use Rattle.offer_rules.proofs.Drawn.{and-left, and-right, draw-zero}
@@ -139,12 +139,17 @@ counts (pos F) (pos S) e = e
 counts (pos F) (negsuc S) e = absurd (true≢false (sym (and-right (leb 1 F && leb F 64) false e)))
 counts (negsuc F) S e = absurd (true≢false (sym e))
 
+-- What 20 leaves: sizes, and words enough.
+pub opening-passed : (w : List ℤ) (F S : ℤ) (limits : List ℤ) → opening-number w F S limits ≡ 0 → (sizes-ok F S ≡ true) × (book-size (toNat F) (toNat S) ≤ length w)
+unfolding opening-number
+opening-passed w F S limits z =
+    let room = leb (book-size (toNat F) (toNat S)) (length w) in
+    let fit = and-left (sizes-ok F S && room) (limits-ok limits) (not-false ((sizes-ok F S && room) && limits-ok limits) (draw-zero _ 20 (omega arith) z)) in
+    (and-left (sizes-ok F S) room fit, leb-true (book-size (toNat F) (toNat S)) (length w) (and-right (sizes-ok F S) room fit))
+
 module _ (w : List ℤ) (F S : ℤ) (limits : List ℤ) (six : length limits ≡ 6) (z : opening-number w F S limits ≡ 0) where
   pub sizes-opened : sizes-ok (pos (toNat F)) (pos (toNat S)) ≡ true
-  unfolding opening-number
-  sizes-opened =
-      let room = leb (book-size (toNat F) (toNat S)) (length w) in
-      counts F S (and-left (sizes-ok F S) room (and-left (sizes-ok F S && room) (limits-ok limits) (not-false ((sizes-ok F S && room) && limits-ok limits) (draw-zero _ 20 (omega arith) z))))
+  sizes-opened = counts F S (opening-passed w F S limits z .0)
 
   pub opening-same : Same (toNat F) (toNat S) limits (opening-words w F S limits) []
   unfolding opening-words

@@ -1,14 +1,13 @@
-use mathlib.Core.Path.{_≡_, _∙_}
-use mathlib.Core.Bool.{Bool, true, not, _&&_, and-assoc}
+use mathlib.Core.Path.{_≡_}
+use mathlib.Core.Bool.{true, and-assoc}
 use native.Mathlib.Omega.{arith}
 use lib.Dec.{leb}
 use lib.ListN.{length}
 use mir.Facts.{sfits-lit}
 use borrow.Author.Tests.{lt-leb, le-leb}
 use borrow.Author.Needs.{needs, sfits-of}
-use Rattle.offer_rules.specs.Numbers.{eqZ, toNat, word}
-use Rattle.book_rules.specs.Record.{sizes-ok}
-use Rattle.book_rules.specs.Words.{book-size, book-mark, book-version, clock-place, is-book}
+use Rattle.offer_rules.specs.Numbers.{word}
+use Rattle.book_rules.specs.Words.{book-mark, book-version, clock-place, is-book}
 use Rattle.units.proofs.Counts.{word-back}
 use Rattle.units.proofs.Signs.{eqb-bits}
 use Rattle.opening.proofs.is_book.Statement.{statement}
