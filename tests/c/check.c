@@ -115,6 +115,14 @@ void open_usual(struct book *b, int32_t now)
     EQUAL(number_of(b, clock_at(now)), 0);
 }
 
+void shut_gate(struct book *b)
+{
+    for (int kind = 3; kind <= 5; kind++)
+        EQUAL(number_of(b, notice_of(kind, 100, 100)), 0);
+    EQUAL(number_of(b, clock_at(2950)), 0);
+    EQUAL(number_of(b, outage_of(0, 2950, 2)), 0);
+}
+
 struct book usual_book(int32_t now)
 {
     struct book b = book_for(2, 5);
@@ -136,6 +144,16 @@ size_t cell_at(const struct book *b, int f, int s, int h, int slot)
 {
     size_t number = (size_t)(((f * b->services + s) * 2 + h) * BILZHAAN_WEEK_SLOTS + slot);
     return 64 + 32 * (size_t)b->facilities + 24 * number;
+}
+
+void put_quantities(struct book *b, int h, int32_t first, int32_t others)
+{
+    int32_t *cell = b->words + cell_at(b, 0, 0, h, 100);
+    cell[0] = h == 1 ? 101 : 1;
+    for (int i = 0; i < 10; i++) {
+        cell[4 + 2 * i] = i == 0 ? 4000 : 5000;
+        cell[5 + 2 * i] = i == 0 ? first : others;
+    }
 }
 
 static bool all_zero(const struct bilzhaan_answer *a)

@@ -44,6 +44,9 @@ struct book book_for(int32_t facilities, int32_t services);
 struct book usual_book(int32_t now);
 void open_usual(struct book *b, int32_t now);
 
+/* Inside the gate of period 100: every notice over it, and facility 0's outage window, which ends with it. */
+void shut_gate(struct book *b);
+
 /* Facility 0's offer of one pair at 40.00, or of blanks where the quantity is 0, with the least proportion that passes. */
 struct record offered(int which, int service, int32_t period, int reason, int32_t quantity);
 
@@ -61,5 +64,8 @@ struct bilzhaan_answer looked_up_at(struct book *b, int f, int s, int32_t period
 
 /* Where the cell of (f, s, standing 0 or variation 1, slot) starts in a book's words. */
 size_t cell_at(const struct book *b, int f, int s, int h, int slot);
+
+/* Facility 0's energy for period 100, as no call leaves it: the first pair at 40.00, the other nine at 50.00. */
+void put_quantities(struct book *b, int h, int32_t first, int32_t others);
 
 #endif

@@ -206,14 +206,10 @@ static void host_holds(struct book *b, int s, int h, struct pairs p)
     memcpy(cell + 4, p.words, sizeof p.words);
 }
 
-/* Inside the gate of the period, every notice and an outage over it. */
 static struct book shut_book(void)
 {
     struct book b = usual_book(0);
-    for (int kind = 3; kind <= 5; kind++)
-        EQUAL(number_of(&b, notice_of(kind, PERIOD, PERIOD)), 0);
-    EQUAL(number_of(&b, clock_at(2950)), 0);
-    EQUAL(number_of(&b, outage_of(0, 2950, 2)), 0);
+    shut_gate(&b);
     return b;
 }
 

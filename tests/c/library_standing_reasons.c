@@ -19,15 +19,12 @@ static struct record energy(int which, int32_t period, int reason, int32_t q1, i
 
 static struct record stood(int reason, int32_t quantity) { return offered(STANDING, BILZHAAN_ENERGY, 100, reason, quantity); }
 
-/* Inside the gate of period 100 over `held` tenths: every notice over it, and an outage window that ends with it. */
+/* Inside the gate of period 100 over `held` tenths. */
 static void shut_over(struct book *b, int32_t held)
 {
     open_usual(b, 0);
     EQUAL(number_of(b, stood(0, held)), 0);
-    for (int kind = 3; kind <= 5; kind++)
-        EQUAL(number_of(b, notice_of(kind, 100, 100)), 0);
-    EQUAL(number_of(b, clock_at(2950)), 0);
-    EQUAL(number_of(b, outage_of(0, 2950, 2)), 0);
+    shut_gate(b);
 }
 
 static void minutes(void)
@@ -224,30 +221,20 @@ static void duplicates(void)
 
 /* ---- damaged books ---- */
 
-/* The first pair at 40.00, the other nine at 50.00. */
-static void put_quantities(struct book *b, int32_t first, int32_t others)
-{
-    int32_t *cell = b->words + cell_at(b, 0, 0, 0, 100);
-    for (int i = 0; i < 10; i++) {
-        cell[4 + 2 * i] = i == 0 ? 4000 : 5000;
-        cell[5 + 2 * i] = i == 0 ? first : others;
-    }
-}
-
 static void damaged(void)
 {
     struct book b = usual_book(0);
     shut_over(&b, 50);
     /* a held quantity below 0 counts as 0 */
-    put_quantities(&b, 60, INT32_MIN);
+    put_quantities(&b, 0, 60, INT32_MIN);
     EQUAL(number_of(&b, stood(3, 60)), BILZHAAN_GATE_CLOSED);
     EQUAL(number_of(&b, stood(4, 60)), BILZHAAN_GATE_CLOSED);
     EQUAL(number_of(&b, stood(4, 61)), 0);
-    put_quantities(&b, -1, -1);
+    put_quantities(&b, 0, -1, -1);
     EQUAL(number_of(&b, stood(3, 0)), BILZHAAN_GATE_CLOSED);
     EQUAL(number_of(&b, stood(4, 1)), 0);
     /* a held total past 32 bits */
-    put_quantities(&b, INT32_MAX, INT32_MAX);
+    put_quantities(&b, 0, INT32_MAX, INT32_MAX);
     EQUAL(number_of(&b, stood(4, 800)), BILZHAAN_GATE_CLOSED);
     EQUAL(number_of(&b, stood(3, 800)), 0);
     /* "(stamp 1)": with another stamp none is held */

@@ -121,17 +121,14 @@ static void refused(void)
 
 /* ---- inside the gate ---- */
 
-/* 60 tenths varied over `held` standing (below 0: none), gate shut, every notice and an outage over the period. */
+/* 60 tenths varied over `held` standing (below 0: none), inside the gate. */
 static void shut_over(struct book *b, int32_t held)
 {
     open_usual(b, 0);
     if (held >= 0)
         EQUAL(number_of(b, stood(held == 0 ? 0 : 4000, held)), 0);
     EQUAL(number_of(b, varied(4000, 60)), 0);
-    for (int kind = 3; kind <= 5; kind++)
-        EQUAL(number_of(b, notice_of(kind, 100, 100)), 0);
-    EQUAL(number_of(b, clock_at(2950)), 0);
-    EQUAL(number_of(b, outage_of(0, 2950, 2)), 0);
+    shut_gate(b);
 }
 
 static void reasons(void)
@@ -178,17 +175,6 @@ static void prices(void)
 }
 
 /* ---- damaged books ---- */
-
-/* The first pair at 40.00, the other nine at 50.00. */
-static void put_quantities(struct book *b, int h, int32_t first, int32_t others)
-{
-    int32_t *cell = b->words + cell_at(b, 0, 0, h, 100);
-    cell[0] = h == 1 ? 101 : 1;
-    for (int i = 0; i < 10; i++) {
-        cell[4 + 2 * i] = i == 0 ? 4000 : 5000;
-        cell[5 + 2 * i] = i == 0 ? first : others;
-    }
-}
 
 static void damaged(void)
 {

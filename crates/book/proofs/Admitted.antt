@@ -1,20 +1,15 @@
 -- What refusals 1 to 4 leave to a call: a usable book, 112 bytes, a call from 1 to 9, and that what it names lies in the book.
 use mathlib.Core.Path.{_≡_, refl, sym, ap, _∙_}
-use mathlib.Core.Bool.{Bool, true, false, not, _&&_}
+use mathlib.Core.Bool.{Bool, true, false}
 use mathlib.Core.List.{List}
 use Prim.Native.Nat.{ℕ, _<_}
 use native.Mathlib.Omega.{arith}
-use lib.Dec.{eqb}
 use lib.IntN.{ℤ}
-use lib.ListN.{length}
-use borrow.Author.Tests.{eqb-true, not-false}
-use Rattle.offer_rules.specs.Numbers.{between}
-use Rattle.offer_rules.proofs.Drawn.{and-left, then-zero, draw-zero}
-use Rattle.book_rules.specs.Record.{byte, call-of, service-of, is-record, record-number}
+use Rattle.book_rules.specs.Record.{call-of, service-of, uses, record-number}
 use Rattle.book_rules.specs.Words.{book-size, is-book}
 use Rattle.book_rules.specs.Force.{plain}
 use Rattle.book_rules.specs.Book.{facilities-in, services-in}
-use Rattle.book_rules.proofs.Calls.{Which, named, capability-uses, standing-uses, variation-uses, outage-uses, look-up-uses, total-uses}
+use Rattle.book_rules.proofs.Calls.{Which, Named, named, capability-uses, standing-uses, variation-uses, outage-uses, look-up-uses, total-uses}
 use Rattle.book_rules.proofs.OneCall.{unusable, turned-away}
 use Rattle.opening.proofs.UsableBooks as books
 use Rattle.judging.specs.Usable.{Usable}
@@ -40,15 +35,6 @@ usable w e =
       timely = u .most-clock;
     }
 
--- Refusal 2 turns down all but 112 bytes.
-length-is : (b : List ℕ) (F S : ℕ) → record-number b F S ≡ 0 → length b ≡ 112
-unfolding record-number is-record
-length-is b F S e =
-    let head = (eqb (byte b 0) 83 && eqb (byte b 1) 79) && eqb (byte b 2) 66 in
-    let rest = (eqb (byte b 3) 0 && eqb (byte b 4) 1) && between 1 9 (call-of b) in
-    let r = not-false (is-record b) (draw-zero (not (is-record b)) 2 (omega arith) (then-zero _ _ e .0)) in
-    eqb-true (length b) 112 (and-left (eqb (length b) 112) head (and-left (eqb (length b) 112 && head) rest r))
-
 -- A number is drawn: it is answered alone, and nothing is written.
 pub turned-down : (w : List ℤ) (b : List ℕ) (n : ℕ) → n ≡ tested-number w b → (n ≡ 0 → ⊥) → Answers w b (plain n) w
 turned-down w b n e h = go (is-book w) refl
@@ -70,42 +56,39 @@ passed w b e = go (is-book w) refl
     go : (t : Bool) → is-book w ≡ t → Tested w b
     go true u =
         let z : record-number b (facilities-in w) (services-in w) ≡ 0 = sym (e ∙ rw u) in
-        record { usable = usable w u; is-taken = z; long = length-is b (facilities-in w) (services-in w) z }
+        record { usable = usable w u; is-taken = z; long = named (facilities-in w) (services-in w) b z .long }
     go false u = let z : _≡_ {A = ℕ} 0 1 = e ∙ rw u in absurd (omega arith)
 
 -- ---- what the call names
 
 module _ (w : List ℤ) (b : List ℕ) (t : Tested w b) where
+  in-book : Named (facilities-in w) (services-in w) b
+  in-book = named (facilities-in w) (services-in w) b (t .is-taken)
+
   pub one-of-nine : Which b
-  one-of-nine = named (facilities-in w) (services-in w) b (t .is-taken) .which
+  one-of-nine = in-book .which
+
+  -- a call that uses byte 6, and one that uses byte 7 too
+  at-facility : {k : ℕ} → call-of b ≡ k → uses b 6 ≡ true → Facility w b k
+  at-facility e u = record { tested = t; call-is = e; facility-in = in-book .facility-in u }
+
+  at-place : {k : ℕ} → call-of b ≡ k → (uses b 6 ≡ true) × (uses b 7 ≡ true) → Place w b k
+  at-place e u = record { tested = t; call-is = e; facility-in = in-book .facility-in (u .0); service-in = in-book .service-in (u .1) }
 
   pub capability-facility : call-of b ≡ 2 → Facility w b 2
-  capability-facility e =
-      let n = named (facilities-in w) (services-in w) b (t .is-taken) in
-      record { tested = t; call-is = e; facility-in = n .facility-in (capability-uses b e) }
+  capability-facility e = at-facility e (capability-uses b e)
 
   pub outage-facility : call-of b ≡ 5 → Facility w b 5
-  outage-facility e =
-      let n = named (facilities-in w) (services-in w) b (t .is-taken) in
-      record { tested = t; call-is = e; facility-in = n .facility-in (outage-uses b e) }
+  outage-facility e = at-facility e (outage-uses b e)
 
   pub standing-place : call-of b ≡ 3 → Place w b 3
-  standing-place e =
-      let n = named (facilities-in w) (services-in w) b (t .is-taken) in
-      let u = standing-uses b e in
-      record { tested = t; call-is = e; facility-in = n .facility-in (u .0); service-in = n .service-in (u .1) }
+  standing-place e = at-place e (standing-uses b e)
 
   pub variation-place : call-of b ≡ 4 → Place w b 4
-  variation-place e =
-      let n = named (facilities-in w) (services-in w) b (t .is-taken) in
-      let u = variation-uses b e in
-      record { tested = t; call-is = e; facility-in = n .facility-in (u .0); service-in = n .service-in (u .1) }
+  variation-place e = at-place e (variation-uses b e)
 
   pub look-up-place : call-of b ≡ 8 → Place w b 8
-  look-up-place e =
-      let n = named (facilities-in w) (services-in w) b (t .is-taken) in
-      let u = look-up-uses b e in
-      record { tested = t; call-is = e; facility-in = n .facility-in (u .0); service-in = n .service-in (u .1) }
+  look-up-place e = at-place e (look-up-uses b e)
 
   pub total-service : call-of b ≡ 9 → service-of b < services-in w
-  total-service e = named (facilities-in w) (services-in w) b (t .is-taken) .service-in (total-uses b e)
+  total-service e = in-book .service-in (total-uses b e)

@@ -1,6 +1,6 @@
 -- Each sentence that names a kind, by the rows of the table.
 use mathlib.Core.Path.{_≡_, refl, sym, _∙_, ap, ap₂}
-use mathlib.Core.Bool.{Bool, true, false, not, _&&_, _||_}
+use mathlib.Core.Bool.{Bool, true, false, not, _&&_, _||_, and-true, and-false, or-true, or-false, and-assoc}
 use Prim.Native.Nat.{ℕ, zero, suc}
 use native.Mathlib.Omega.{arith}
 use lib.Dec.{ltb}
@@ -11,7 +11,6 @@ use Rattle.offer_rules.specs.Numbers.{eqZ, between, beyond}
 use Rattle.offer_rules.specs.Kinds.{Kind, kind-row, is-in, is-kind, admits}
 use Rattle.offer_rules.specs.Offer.{kind-of, is-energy, is-reserve, max-proportion, proportion, proportion-refused}
 use Rattle.offer_rules.specs.Gate.{covers, admits-service, period-covered, total-moved, reason-holds}
-use Rattle.offer_rules.proofs.Drawn.{and-false, and-true, or-false, or-true}
 use Rattle.offer_rules.proofs.KindRows.{each-kind}
 use Rattle.book_rules.specs.Refusals.{has-kind, kind-refused, any-mark-astray, marks-refused}
 use Rattle.book_rules.specs.ByKind.{is-generation, is-load, is-one-of-three, ThreeKinds, HeldKinds, Outages, Marks, Registrations, Proportions, Reasons}
@@ -83,13 +82,10 @@ whom reason t generation load link other =
 
 -- A reason that asks nothing of the service, and one that does.
 asks-kind : (k c m : Bool) → ((k && true) && (c && m)) ≡ (k && (c && m))
-asks-kind true c m = refl
-asks-kind false c m = refl
+asks-kind k c m = rw and-true
 
 asks-service : (k s c m : Bool) → ((k && s) && (c && m)) ≡ (k && ((s && c) && m))
-asks-service true true c m = refl
-asks-service true false c m = refl
-asks-service false s c m = refl
+asks-service k s c m = simp and-assoc
 
 pub reasons : Reasons
 unfolding Reasons reason-holds admits-service period-covered total-moved kind-row

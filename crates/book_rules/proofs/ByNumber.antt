@@ -1,7 +1,7 @@
 -- Demands 1 and 2: the number drawn is the lowest whose condition applies, and a refused call changes nothing.
 use mathlib.Core.Path.{_≡_, refl, sym, _∙_, ap, ap₂}
 use mathlib.Core.Logic.{_⊎_, inl, inr, ⊎-elim}
-use mathlib.Core.Bool.{Bool, true, false, cond, not, false≢true}
+use mathlib.Core.Bool.{Bool, true, false, cond, not, false≢true, or-false}
 use mathlib.Core.List.{List, [], _∷_}
 use mathlib.Core.Option.{Option, none, some}
 use Prim.Native.Nat.{ℕ, zero, suc, _+_, _≤_, _<_}
@@ -17,7 +17,7 @@ use Rattle.offer_rules.specs.Gate.{Grounds, gate-refuses}
 use Rattle.offer_rules.proofs.Periods.{next-is-one}
 use Rattle.offer_rules.proofs.Blanks.{none-before}
 use Rattle.offer_rules.proofs.Ranges.{same-word}
-use Rattle.offer_rules.proofs.Drawn.{and-left, and-right, or-right, or-false, then-eq, then-zero, draw-zero, then-assoc}
+use Rattle.offer_rules.proofs.Drawn.{and-left, and-right, or-right, then-eq, then-zero, draw-zero, then-assoc}
 use Rattle.book_rules.specs.Record.{period-word, offer-in, is-record, outside, has-stray, record-number}
 use Rattle.book_rules.specs.Words.{is-book}
 use Rattle.book_rules.specs.Force.{View, Answer, plain}

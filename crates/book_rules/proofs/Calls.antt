@@ -6,9 +6,9 @@ use Prim.Native.Nat.{ℕ, zero, suc, _+_, _≤_, _<_}
 use native.Mathlib.Omega.{arith}
 use lib.Dec.{leb, eqb}
 use lib.ListN.{length}
-use borrow.Author.Tests.{leb-false, not-false}
+use borrow.Author.Tests.{eqb-true, leb-false, not-false}
 use Rattle.offer_rules.specs.Numbers.{toNat, between, _then_}
-use Rattle.offer_rules.proofs.Drawn.{and-right, or-left, or-right, then-zero, draw-zero}
+use Rattle.offer_rules.proofs.Drawn.{and-left, and-right, or-left, or-right, then-zero, draw-zero}
 use Rattle.offer_rules.proofs.Ranges.{between-low, between-high}
 use Rattle.book_rules.specs.Record.{byte, call-of, facility-of, service-of, period-word, reason-of, word-A, word-B, capability-in, offer-in, used, uses, is-record, outside, has-stray, record-number, words-at}
 use Rattle.book_rules.specs.Force.{View, plain}
@@ -40,6 +40,7 @@ which-of b (suc (suc (suc (suc (suc (suc (suc (suc (suc (suc k)))))))))) h g e =
 
 -- What a record that passes 2, 3 and 4 names lies in the book, and it carries nothing else.
 pub record Named (F S : ℕ) (b : List ℕ) : Type 0 where
+  pub long : length b ≡ 112
   pub which : Which b
   pub none-stray : has-stray b ≡ false
   pub facility-in : uses b 6 ≡ true → facility-of b < F
@@ -49,24 +50,29 @@ passed : (t u : Bool) → (t && u) ≡ false → t ≡ true → u ≡ false
 passed true u e h = e
 passed false u e h = absurd (let z : _≡_ {A = ℕ} 0 1 = cc h in omega arith)
 
-known-call : (b : List ℕ) → is-record b ≡ true → between 1 9 (call-of b) ≡ true
+-- What 2 leaves.
+of-a-record : (b : List ℕ) → is-record b ≡ true → (length b ≡ 112) × (between 1 9 (call-of b) ≡ true)
 unfolding is-record
-known-call b e =
-    and-right (eqb (byte b 3) 0 && eqb (byte b 4) 1) (between 1 9 (call-of b))
-    (and-right (eqb (length b) 112 && ((eqb (byte b 0) 83 && eqb (byte b 1) 79) && eqb (byte b 2) 66)) ((eqb (byte b 3) 0 && eqb (byte b 4) 1) && between 1 9 (call-of b)) e)
+of-a-record b e =
+    let long = eqb (length b) 112 in
+    let mark = (eqb (byte b 0) 83 && eqb (byte b 1) 79) && eqb (byte b 2) 66 in
+    let version = eqb (byte b 3) 0 && eqb (byte b 4) 1 in
+    let call = between 1 9 (call-of b) in
+    (eqb-true (length b) 112 (and-left long mark (and-left (long && mark) (version && call) e)), and-right version call (and-right (long && mark) (version && call) e))
 
 pub named : (F S : ℕ) (b : List ℕ) → record-number b F S ≡ 0 → Named F S b
 unfolding record-number outside
 named F S b e =
     let z = then-zero _ _ e in
     let y = then-zero _ _ (z .1) in
-    let k = known-call b (not-false (is-record b) (draw-zero (not (is-record b)) 2 (omega arith) (z .0))) in
+    let r = of-a-record b (not-false (is-record b) (draw-zero (not (is-record b)) 2 (omega arith) (z .0))) in
     let o = draw-zero (outside b F S) 3 (omega arith) (y .0) in
     let f = uses b 6 && leb F (facility-of b) in
     let s = uses b 7 && leb S (service-of b) in
     record {
+      long = r .0;
       none-stray = draw-zero (has-stray b) 4 (omega arith) (y .1);
-      which = which-of b (call-of b) (between-low 1 9 (call-of b) k) (between-high 1 9 (call-of b) k) refl;
+      which = which-of b (call-of b) (between-low 1 9 (call-of b) (r .1)) (between-high 1 9 (call-of b) (r .1)) refl;
       facility-in = λ u. leb-false F (facility-of b) (passed (uses b 6) (leb F (facility-of b)) (or-left f s o) u);
       service-in = λ u. leb-false S (service-of b) (passed (uses b 7) (leb S (service-of b)) (or-right f s o) u);
     }

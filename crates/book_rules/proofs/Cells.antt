@@ -1,6 +1,6 @@
 -- What refusal 4 leaves of an offer, and a cell written and read back: 4 and 14 leave no ramps that word 2 doesn't give back.
 use mathlib.Core.Path.{_≡_, refl, sym, _∙_, ap}
-use mathlib.Core.Bool.{Bool, true, false, cond, not, _&&_, _||_, true≢false}
+use mathlib.Core.Bool.{Bool, true, false, cond, not, _&&_, _||_, true≢false, and-false, or-false}
 use mathlib.Core.List.{List, [], _∷_}
 use mathlib.Core.Option.{none, some}
 use mathlib.Core.Logic.{_≢_, _⊎_, inl, inr}
@@ -14,7 +14,7 @@ use lib.Seq.{getD-drop}
 use borrow.Author.Tests.{eq-eqb, ne-eqb, eqb-true, lt-leb, not-true}
 use Rattle.offer_rules.specs.Numbers.{word, between, beyond, any-beyond}
 use Rattle.offer_rules.specs.Offer.{pairs, Held, accepted-at, all-blank, most-ramp, ramp-beyond, ramp-refused, offer-number}
-use Rattle.offer_rules.proofs.Drawn.{and-false, or-left, or-right, or-false, then-zero, draw-zero}
+use Rattle.offer_rules.proofs.Drawn.{or-left, or-right, then-zero, draw-zero}
 use Rattle.offer_rules.proofs.Ranges.{within}
 use Rattle.book_rules.specs.Record.{byte, signed, word-at, words-at, call-of, service-of, offer-in, used-by-offer, used, any-stray, has-stray}
 use Rattle.book_rules.specs.Words.{ramp-unit, packed-ramps, cell, cell-held, holding, ramps-fit, variation-stamp}

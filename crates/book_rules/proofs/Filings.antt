@@ -1,10 +1,10 @@
 -- What each accepted call files, in the book's words and in the list: the same thing under the same key, and nothing under any other.
 use mathlib.Core.Path.{_≡_, refl, sym, _∙_, ap}
-use mathlib.Core.Logic.{_≢_, _⊎_, inl, inr}
+use mathlib.Core.Logic.{_≢_}
 use mathlib.Core.Bool.{Bool, true, false, _&&_}
 use mathlib.Core.List.{List, [], _∷_}
 use mathlib.Core.Option.{Option, none, some}
-use Prim.Native.Nat.{ℕ}
+use Prim.Native.Nat.{ℕ, _≤_, _<_}
 use native.Mathlib.Omega.{arith}
 use lib.Dec.{eqb}
 use lib.IntN.{ℤ, pos}
@@ -199,25 +199,24 @@ module _ (b : List ℕ) where
       keeps = variation-keeps e;
     }
 
-  reader-keeps : (k : ℕ) → call-of b ≡ k → (k ≡ 8) ⊎ (k ≡ 9) → (l : List (List ℕ)) (κ : Key) → listed (b ∷ l) κ ≡ listed l κ
-  unfolding listed newest list-clock list-notice list-capability list-outage list-standing list-variation
-  reader-keeps k e (inl q) l clockK = rw (e ∙ q)
-  reader-keeps k e (inl q) l (noticeK n) = rw (e ∙ q)
-  reader-keeps k e (inl q) l (capabilityK f) = rw (e ∙ q)
-  reader-keeps k e (inl q) l (outageK f) = rw (e ∙ q)
-  reader-keeps k e (inl q) l (standingK f s n) = rw (e ∙ q)
-  reader-keeps k e (inl q) l (variationK f s p) = rw (e ∙ q)
-  reader-keeps k e (inr q) l clockK = rw (e ∙ q)
-  reader-keeps k e (inr q) l (noticeK n) = rw (e ∙ q)
-  reader-keeps k e (inr q) l (capabilityK f) = rw (e ∙ q)
-  reader-keeps k e (inr q) l (outageK f) = rw (e ∙ q)
-  reader-keeps k e (inr q) l (standingK f s n) = rw (e ∙ q)
-  reader-keeps k e (inr q) l (variationK f s p) = rw (e ∙ q)
+  -- A call from 8 on is none of those that file.
+  module _ (k : ℕ) (e : call-of b ≡ k) (late : 8 ≤ k) where
+    not-call : (n : ℕ) → n < 8 → eqb (call-of b) n ≡ false
+    not-call n h = rw e (ne-eqb k n (λ q. omega arith))
+
+    reader-keeps : (l : List (List ℕ)) (κ : Key) → listed (b ∷ l) κ ≡ listed l κ
+    unfolding listed newest list-clock list-notice list-capability list-outage list-standing list-variation
+    reader-keeps l clockK = rw (not-call 1 (omega arith))
+    reader-keeps l (noticeK n) = rw (not-call 6 (omega arith), not-call 7 (omega arith))
+    reader-keeps l (capabilityK f) = rw (not-call 2 (omega arith))
+    reader-keeps l (outageK f) = rw (not-call 5 (omega arith))
+    reader-keeps l (standingK f s n) = rw (not-call 3 (omega arith))
+    reader-keeps l (variationK f s p) = rw (not-call 4 (omega arith))
 
   pub look-up-files : call-of b ≡ 8 → FilesNothing b
   unfolding book-accept
-  look-up-files e = record { writes-none = λ w. rw e; keeps-all = reader-keeps 8 e (inl refl) }
+  look-up-files e = record { writes-none = λ w. rw e; keeps-all = reader-keeps 8 e (omega arith) }
 
   pub total-files : call-of b ≡ 9 → FilesNothing b
   unfolding book-accept
-  total-files e = record { writes-none = λ w. rw e; keeps-all = reader-keeps 9 e (inr refl) }
+  total-files e = record { writes-none = λ w. rw e; keeps-all = reader-keeps 9 e (omega arith) }

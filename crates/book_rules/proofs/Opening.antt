@@ -8,7 +8,7 @@ use lib.Dec.{leb}
 use lib.IntN.{ℤ, pos, negsuc}
 use lib.ListN.{length, getD, take, drop, replicate, length-replicate, length-append, length-drop, List·getD-append}
 use lib.Seq.{take-at, drop-append-add, drop-append-le, take-append-le, getD-append-add, getD-take, getD-drop}
-use borrow.Author.Tests.{not-false}
+use borrow.Author.Tests.{leb-true, not-false}
 use Rattle.offer_rules.specs.Numbers.{toNat, word, zeros}
 use Rattle.offer_rules.specs.Time.{slot-of}
 use Rattle.offer_rules.proofs.Drawn.{and-left, and-right, draw-zero}
@@ -24,10 +24,14 @@ zero-words zero i = refl
 zero-words (suc n) zero = refl
 zero-words (suc n) (suc i) = zero-words n i
 
-length-facilities : (n : ℕ) → length (empty-facilities n) ≡ 32 * n
+pub length-facilities : (n : ℕ) → length (empty-facilities n) ≡ 32 * n
 unfolding empty-facilities empty-facility
 length-facilities zero = refl
 length-facilities (suc n) = let h = length-facilities n in simp length-append (omega arith)
+
+pub length-head : (F S : ℕ) (limits : List ℤ) → length limits ≡ 6 → length (opening-head F S limits) ≡ 64
+unfolding opening-head
+length-head F S limits six = simp (length-append, length-replicate) (omega arith)
 
 -- A part of a facility's words.
 part-of-facility : (n f i m : ℕ) (t : List ℤ) → f < n → i + m ≤ 32 → take m (drop (32 * f + i) (empty-facilities n ++ t)) ≡ take m (drop i empty-facility)
@@ -52,18 +56,14 @@ module _ (F S : ℕ) (limits past : List ℤ) (six : length limits ≡ 6) where
   cells : List ℤ
   cells = zeros (16128 * (F * S)) ++ past
 
-  length-head : length (opening-head F S limits) ≡ 64
-  unfolding opening-head
-  length-head = simp (length-append, length-replicate) (omega arith)
-
   length-opened : book-size F S ≤ length (opened F S limits past)
   unfolding book-size opened
-  length-opened = simp (length-append, length-replicate, length-head, length-facilities) (omega arith)
+  length-opened = simp (length-append, length-replicate, length-head F S limits six, length-facilities) (omega arith)
 
   part-past-head : (j m : ℕ) → take m (drop (64 + j) (opened F S limits past)) ≡ take m (drop j (empty-facilities F ++ cells))
   unfolding opened cells
   part-past-head j m =
-      let e = length-head in
+      let e = length-head F S limits six in
       let i : 64 + j ≡ length (opening-head F S limits) + j = omega arith in
       ap (λ (x : ℕ). take m (drop x (opened F S limits past))) i
       ∙ ap (take m) (drop-append-add (opening-head F S limits) (empty-facilities F ++ cells) j)
@@ -85,7 +85,7 @@ module _ (F S : ℕ) (limits past : List ℤ) (six : length limits ≡ 6) where
       let n = ((f * S + s) * 2 + h) * 336 + k in
       let a = 64 + 32 * F + 24 * n in
       let inside = cell-inside F S f s h k hf hs hh hk in
-      let eh = length-head in
+      let eh = length-head F S limits six in
       let ef = length-facilities F in
       let all : opened F S limits past ≡ (opening-head F S limits ++ empty-facilities F) ++ cells = sym (append-assoc (opening-head F S limits) (empty-facilities F) cells) in
       let j : a + 0 ≡ length (opening-head F S limits ++ empty-facilities F) + 24 * n = simp length-append (omega arith) in
@@ -139,12 +139,17 @@ counts (pos F) (pos S) e = e
 counts (pos F) (negsuc S) e = absurd (true≢false (sym (and-right (leb 1 F && leb F 64) false e)))
 counts (negsuc F) S e = absurd (true≢false (sym e))
 
+-- What 20 leaves: sizes, and words enough.
+pub opening-passed : (w : List ℤ) (F S : ℤ) (limits : List ℤ) → opening-number w F S limits ≡ 0 → (sizes-ok F S ≡ true) × (book-size (toNat F) (toNat S) ≤ length w)
+unfolding opening-number
+opening-passed w F S limits z =
+    let room = leb (book-size (toNat F) (toNat S)) (length w) in
+    let fit = and-left (sizes-ok F S && room) (limits-ok limits) (not-false ((sizes-ok F S && room) && limits-ok limits) (draw-zero _ 20 (omega arith) z)) in
+    (and-left (sizes-ok F S) room fit, leb-true (book-size (toNat F) (toNat S)) (length w) (and-right (sizes-ok F S) room fit))
+
 module _ (w : List ℤ) (F S : ℤ) (limits : List ℤ) (six : length limits ≡ 6) (z : opening-number w F S limits ≡ 0) where
   pub sizes-opened : sizes-ok (pos (toNat F)) (pos (toNat S)) ≡ true
-  unfolding opening-number
-  sizes-opened =
-      let room = leb (book-size (toNat F) (toNat S)) (length w) in
-      counts F S (and-left (sizes-ok F S) room (and-left (sizes-ok F S && room) (limits-ok limits) (not-false ((sizes-ok F S && room) && limits-ok limits) (draw-zero _ 20 (omega arith) z))))
+  sizes-opened = counts F S (opening-passed w F S limits z .0)
 
   pub opening-same : Same (toNat F) (toNat S) limits (opening-words w F S limits) []
   unfolding opening-words

@@ -31,32 +31,26 @@ use Rattle.book_rules.proofs.Places.{Key, clockK, noticeK, capabilityK,
 use Rattle.book_rules.proofs.Filings.{window-words, offer-words, listed, shown, Files, FilesNothing, clock-files, capability-files, standing-files, variation-files, outage-files, notice-files, withdrawal-files, look-up-files, total-files}
 use Rattle.book_rules.proofs.Rules.{Agree, standing-accepted, variation-accepted, standing-fits, variation-fits}
 
+-- What is asked of a variation's key, by its period, and of no other.
+abbrev pub OfVariations : (ℕ → Type 0) → Key → Type 0
+OfVariations P clockK = Unit {0}
+OfVariations P (noticeK k) = Unit {0}
+OfVariations P (capabilityK f) = Unit {0}
+OfVariations P (outageK f) = Unit {0}
+OfVariations P (standingK f s k) = Unit {0}
+OfVariations P (variationK f s p) = P p
+
 -- A key that the rules may ask for at this time: they ask for no variation of a period that has begun.
 abbrev pub Alive : ℕ → Key → Type 0
-Alive now clockK = Unit {0}
-Alive now (noticeK k) = Unit {0}
-Alive now (capabilityK f) = Unit {0}
-Alive now (outageK f) = Unit {0}
-Alive now (standingK f s k) = Unit {0}
-Alive now (variationK f s p) = now < start-of p
+Alive now = OfVariations (λ p. now < start-of p)
 
 -- A key that may be filed under at this time.
 abbrev Near : ℕ → Key → Type 0
-Near now clockK = Unit {0}
-Near now (noticeK k) = Unit {0}
-Near now (capabilityK f) = Unit {0}
-Near now (outageK f) = Unit {0}
-Near now (standingK f s k) = Unit {0}
-Near now (variationK f s p) = (now < start-of p) × (p < horizon-end now)
+Near now = OfVariations (λ p. (now < start-of p) × (p < horizon-end now))
 
 -- A variation's cell holds nothing for another period.
 abbrev HoldsNoOther : Key → List ℤ → Type 0
-HoldsNoOther clockK v = Unit {0}
-HoldsNoOther (noticeK k) v = Unit {0}
-HoldsNoOther (capabilityK f) v = Unit {0}
-HoldsNoOther (outageK f) v = Unit {0}
-HoldsNoOther (standingK f s k) v = Unit {0}
-HoldsNoOther (variationK f s p) v = (q : ℕ) → q ≢ p → held (variation-stamp q) v ≡ none
+HoldsNoOther κ v = OfVariations (λ p. (q : ℕ) → q ≢ p → held (variation-stamp q) v ≡ none) κ
 
 alive-before : (m n : ℕ) (κ : Key) → m ≤ n → Alive n κ → Alive m κ
 alive-before m n clockK h a = tt

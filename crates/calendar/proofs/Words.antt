@@ -1,6 +1,6 @@
 -- Words tested as they are, and as counts.
 use mathlib.Core.Path.{_≡_, refl}
-use mathlib.Core.Bool.{Bool, true, false, _&&_, _||_}
+use mathlib.Core.Bool.{Bool, true, false, _&&_, _||_, and-false}
 use Prim.Native.Nat.{ℕ, _≤_}
 use native.Mathlib.Omega.{arith}
 use lib.Dec.{leb, ltb}
@@ -8,7 +8,6 @@ use lib.IntN.{ℤ, pos, negsuc}
 use lib.Signed.{ltZ}
 use borrow.Author.Tests.{ltb-true, le-leb, lt-leb}
 use Rattle.offer_rules.specs.Numbers.{toNat, between, beyond}
-use Rattle.offer_rules.proofs.Drawn.{and-false}
 use Rattle.offer_rules.proofs.Ranges.{between-low, between-high, is-between, within}
 
 pub within-counts : (lo hi : ℕ) (z : ℤ) → beyond (pos lo) (pos hi) z ≡ false → between lo hi (toNat z) ≡ true

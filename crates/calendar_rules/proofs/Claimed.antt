@@ -1,6 +1,6 @@
 -- The claims of specs/Claims.
 use mathlib.Core.Path.{_≡_, refl, sym, ap, _∙_}
-use mathlib.Core.Bool.{Bool, true, false, cond, not}
+use mathlib.Core.Bool.{Bool, true, false, cond, not, and-false, or-true}
 use Prim.Native.Nat.{ℕ, zero, suc, _+_, _*_, _-_, _/_, _%_, _≤_, _<_}
 use native.Mathlib.Omega.{arith}
 use lib.Dec.{eqb}
@@ -9,7 +9,7 @@ use lib.ListN.{List·getD-eq-default}
 use borrow.Author.Tests.{eq-eqb, ne-eqb, le-ltb}
 use Rattle.offer_rules.specs.Numbers.{toNat, between}
 use Rattle.offer_rules.specs.Time.{periods-a-day}
-use Rattle.offer_rules.proofs.Drawn.{and-left, and-right, and-false, or-true}
+use Rattle.offer_rules.proofs.Drawn.{and-left, and-right}
 use Rattle.offer_rules.proofs.Ranges.{between-low, between-high, is-between, count-within}
 use Rattle.calendar_rules.specs.Calendar.{divides, is-leap, month-lengths, month-days, days-before, days-of-years, date-exists, day-number, period-of-date, weekday-of, last-period, date-of-day}
 use Rattle.calendar_rules.specs.Answers.{PeriodAnswer, DateAnswer, is-date-and-period, no-period, period-found, period-for, period-answer, is-outside-calendar, no-date, date-found, date-answer}

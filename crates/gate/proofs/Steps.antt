@@ -1,6 +1,6 @@
 -- A step of the merge keeps the answer that it comes to.
 use mathlib.Core.Path.{_≡_, refl, sym, ap, _∙_}
-use mathlib.Core.Bool.{Bool, true, false, cond, not, _||_}
+use mathlib.Core.Bool.{Bool, true, false, cond, not, _||_, and-false, Bool·not-not}
 use mathlib.Core.List.{List, []}
 use Prim.Native.Nat.{ℕ, zero, suc, _+_, _-_, _*_, _<_, _≤_}
 use native.Mathlib.Omega.{arith}
@@ -13,7 +13,6 @@ use Rattle.offer_rules.specs.Offer.{pairs-in}
 use Rattle.gate.specs.declared.Merge.{Merge}
 use Rattle.gate.specs.Differing.{or-else, first-differing}
 use Rattle.gate.specs.Merging.{cut, rest, left-of, alike, differ, pass-old, pass-new, pass-both, either, merged, later, first-from}
-use Rattle.offer_rules.proofs.Drawn.{and-false}
 use Rattle.offer_rules.proofs.Pairs.{pairs-from, no-pairs-from}
 use Rattle.gate.proofs.Runs.{run, pass-shorter, pass-shorter-new, flip, uncut, none-left}
 
@@ -40,22 +39,18 @@ later-twice : (n a k : ℕ) → later (n + a) k ≡ later n (later a k)
 later-twice n a zero = refl
 later-twice n a (suc k) = omega arith
 
-not-not : (x : Bool) → x ≡ not (not x)
-not-not true = refl
-not-not false = refl
-
 -- What the test of two pairs says of the one with fewer tenths left.
 differ-old : (a b : ℕ) (same : Bool) → a ≤ b → (eqb a 0 || same) ≡ not (differ a b same)
 unfolding differ
 differ-old zero b same h = refl
 differ-old (suc a) b same h =
-    rw (ne-eqb (suc a) 0 (λ q. omega arith), lt-ltb 0 (suc a) (omega arith), lt-ltb 0 b (omega arith)) (not-not same)
+    rw (ne-eqb (suc a) 0 (λ q. omega arith), lt-ltb 0 (suc a) (omega arith), lt-ltb 0 b (omega arith)) (sym (Bool·not-not same))
 
 differ-new : (a b : ℕ) (same : Bool) → b ≤ a → (eqb b 0 || same) ≡ not (differ a b same)
 unfolding differ
 differ-new a zero same h = rw (and-false (ltb 0 a))
 differ-new a (suc b) same h =
-    rw (ne-eqb (suc b) 0 (λ q. omega arith), lt-ltb 0 (suc b) (omega arith), lt-ltb 0 a (omega arith)) (not-not same)
+    rw (ne-eqb (suc b) 0 (λ q. omega arith), lt-ltb 0 (suc b) (omega arith), lt-ltb 0 a (omega arith)) (sym (Bool·not-not same))
 
 module _ (old new : List ℤ) (s : Merge) (ho : 2 * s .«old_pair» + 1 < length old) (hn : 2 * s .«new_pair» + 1 < length new) where
   abbrev a : ℕ

@@ -98,22 +98,13 @@ no-priced-tenth (x ∷ l) h n k =
     let e : n - 0 ≡ n = omega arith in
     rw (zero-quantity x (and-left (is-blank x) (all-blank l) h), lt-leb n 0 (omega arith), e) (no-priced-tenth l (and-right (is-blank x) (all-blank l) h) n k)
 
+-- What goes through pairs one by one, and comes to as much of the blanks as of none.
+before : {A : Type 0} (f : List Pair → A) → ((x : Pair) (l m : List Pair) → f l ≡ f m → f (x ∷ l) ≡ f (x ∷ m)) → (blanks : List Pair) → f blanks ≡ f []
+    → (first : List Pair) → f (first ++ blanks) ≡ f first
+before f on blanks none [] = none
+before f on blanks none (x ∷ l) = on x (l ++ blanks) l (before f on blanks none l)
+
 module _ (blanks : List Pair) (h : all-blank blanks ≡ true) where
-  sum-before : (first : List Pair) → sum-of (first ++ blanks) ≡ sum-of first
-  unfolding sum-of
-  sum-before [] = no-sum blanks h
-  sum-before (x ∷ l) = rw (sum-before l)
-
-  prices-before : (first : List Pair) → non-blank-prices (first ++ blanks) ≡ non-blank-prices first
-  unfolding non-blank-prices
-  prices-before [] = no-prices blanks h
-  prices-before (x ∷ l) = rw (prices-before l)
-
-  tenths-before : (first : List Pair) → total-tenths (first ++ blanks) ≡ total-tenths first
-  unfolding total-tenths
-  tenths-before [] = no-tenths blanks h
-  tenths-before (x ∷ l) = rw (tenths-before l)
-
   price-before : (first : List Pair) (n : ℕ) → 1 ≤ n → price-of-tenth (first ++ blanks) n ≡ price-of-tenth first n
   unfolding price-of-tenth
   price-before [] n k = no-priced-tenth blanks h n k
@@ -127,13 +118,16 @@ module _ (blanks : List Pair) (h : all-blank blanks ≡ true) where
 -- 13, 16 and 17 of an offer, by its first pairs
 module _ {first l : List Pair} (after : BlanksAfter first l) where
   pub sum-of-first : sum-of l ≡ sum-of first
-  sum-of-first = ap sum-of (after .followed) ∙ sum-before (after .blanks) (after .only-blanks) first
+  unfolding sum-of
+  sum-of-first = ap sum-of (after .followed) ∙ before sum-of (λ x l m e. rw e) (after .blanks) (no-sum (after .blanks) (after .only-blanks)) first
 
   pub prices-of-first : non-blank-prices l ≡ non-blank-prices first
-  prices-of-first = ap non-blank-prices (after .followed) ∙ prices-before (after .blanks) (after .only-blanks) first
+  unfolding non-blank-prices
+  prices-of-first = ap non-blank-prices (after .followed) ∙ before non-blank-prices (λ x l m e. rw e) (after .blanks) (no-prices (after .blanks) (after .only-blanks)) first
 
   tenths-of-first : total-tenths l ≡ total-tenths first
-  tenths-of-first = ap total-tenths (after .followed) ∙ tenths-before (after .blanks) (after .only-blanks) first
+  unfolding total-tenths
+  tenths-of-first = ap total-tenths (after .followed) ∙ before total-tenths (λ x l m e. rw e) (after .blanks) (no-tenths (after .blanks) (after .only-blanks)) first
 
   price-of-first : (n : ℕ) → 1 ≤ n → price-of-tenth l n ≡ price-of-tenth first n
   price-of-first n k = ap (λ (m : List Pair). price-of-tenth m n) (after .followed) ∙ price-before (after .blanks) (after .only-blanks) first n k

@@ -15,10 +15,6 @@ pub and-right : (a b : Bool) → a && b ≡ true → b ≡ true
 and-right true b e = e
 and-right false b e = absurd (false≢true e)
 
-pub and-false : (t : Bool) → (t && false) ≡ false
-and-false true = refl
-and-false false = refl
-
 pub and-true : (t : Bool) → (t && true) ≡ t
 and-true true = refl
 and-true false = refl
@@ -30,14 +26,6 @@ or-left false b e = refl
 pub or-right : (a b : Bool) → a || b ≡ false → b ≡ false
 or-right true b e = absurd (false≢true (sym e))
 or-right false b e = e
-
-pub or-false : (t : Bool) → (t || false) ≡ t
-or-false true = refl
-or-false false = refl
-
-pub or-true : (t : Bool) → (t || true) ≡ true
-or-true true = refl
-or-true false = refl
 
 pub then-eq : (n n′ m m′ : ℕ) → n ≡ n′ → (n ≡ 0 → m ≡ m′) → (n then m) ≡ (n′ then m′)
 unfolding _then_

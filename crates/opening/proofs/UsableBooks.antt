@@ -8,14 +8,15 @@ use native.Mathlib.Omega.{arith}
 use lib.Dec.{leb, eqb}
 use lib.IntN.{ℤ, pos, negsuc}
 use lib.ListN.{length}
-use borrow.Author.Tests.{leb-true, eqb-true, not-true, not-false}
+use borrow.Author.Tests.{leb-true, eqb-true, not-true}
 use Rattle.offer_rules.specs.Numbers.{eqZ, toNat, word, beyond}
-use Rattle.offer_rules.proofs.Drawn.{and-left, and-right, draw-zero}
+use Rattle.offer_rules.proofs.Drawn.{and-left, and-right}
 use Rattle.offer_rules.proofs.Ranges.{count-within}
 use Rattle.book_rules.specs.Record.{sizes-ok}
 use Rattle.book_rules.specs.Book.{facilities-in, services-in}
-use Rattle.book_rules.specs.Words.{book-size, book-mark, book-version, clock-place, is-book, limits-ok, opening-number}
+use Rattle.book_rules.specs.Words.{book-size, book-mark, book-version, clock-place, is-book, opening-number}
 use Rattle.book_rules.proofs.OneCall.{room-in}
+use Rattle.book_rules.proofs.Opening.{opening-passed}
 
 -- Sizes that are not refused are counts.
 pub record Sizes (F S : ℤ) : Type 0 where
@@ -90,9 +91,4 @@ usable w e =
 
 -- An opening that is not refused has sizes, and words enough.
 pub opening-fits : (w : List ℤ) (F S : ℤ) (limits : List ℤ) → opening-number w F S limits ≡ 0 → Sizes F S × (book-size (toNat F) (toNat S) ≤ length w)
-unfolding opening-number
-opening-fits w F S limits e =
-    let room = leb (book-size (toNat F) (toNat S)) (length w) in
-    let ok = not-false ((sizes-ok F S && room) && limits-ok limits) (draw-zero (not ((sizes-ok F S && room) && limits-ok limits)) 20 (omega arith) e) in
-    let fit = and-left (sizes-ok F S && room) (limits-ok limits) ok in
-    (sized F S (and-left (sizes-ok F S) room fit), leb-true (book-size (toNat F) (toNat S)) (length w) (and-right (sizes-ok F S) room fit))
+opening-fits w F S limits e = let fit = opening-passed w F S limits e in (sized F S (fit .0), fit .1)

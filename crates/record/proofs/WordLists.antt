@@ -1,20 +1,15 @@
--- A list filled from the front with a record's words:
--- a turn of the loop that does it, and its end.
-use mathlib.Core.Path.{_≡_, refl, sym, ap, ap₂, _∙_}
+-- A list filled from the front with a record's words: a turn of the loop that does it.
+use mathlib.Core.Path.{_≡_, sym, ap, ap₂, _∙_}
 use mathlib.Core.List.{List, [], _∷_, _++_, append-nil}
-use Prim.Native.Nat.{ℕ, zero, suc, _+_, _*_, _<_, _≤_}
+use Prim.Native.Nat.{ℕ, zero, suc, _+_, _*_, _<_}
 use native.Mathlib.Omega.{arith}
 use native.Mathlib.Numerals.{add-one}
-use lib.IntN.{ℤ, pos}
-use lib.ListN.{length, drop, getD, set, drop-of-length-le}
-use lib.Seq.{drop-cons, set-at, append-snoc}
+use lib.IntN.{ℤ}
+use lib.ListN.{length, drop, set, drop-of-length-le}
 use borrow.Rule.Slice.PartMut.{putMid}
 use Rattle.book_rules.specs.Record.{word-at, words-at}
-
-pub length-words-at : (b : List ℕ) (at n : ℕ) → length (words-at b at n) ≡ n
-unfolding words-at
-length-words-at b at zero = refl
-length-words-at b at (suc n) = ap suc (length-words-at b (at + 4) n)
+use Rattle.book_rules.proofs.Calls.{length-words}
+use Rattle.units.proofs.Copying.{written-more}
 
 -- one word more, at the end
 pub words-at-snoc : (b : List ℕ) (at n : ℕ) → words-at b at (suc n) ≡ words-at b at n ++ (word-at b (at + 4 * n) ∷ [])
@@ -27,12 +22,7 @@ words-at-snoc b at (suc n) =
 -- a turn of a loop that writes the words over d
 pub fill-more : (b : List ℕ) (d : List ℤ) (at i : ℕ) → i < length d
     → set (words-at b at i ++ drop i d) i (word-at b (at + 4 * i)) ≡ words-at b at (i + 1) ++ drop (i + 1) d
-fill-more b d at i h =
-    let w : ℤ = word-at b (at + 4 * i) in
-    ap (λ (r : List ℤ). set (words-at b at i ++ r) i w) (drop-cons d i (pos 0) h)
-    ∙ set-at (words-at b at i) (getD d i (pos 0)) (drop (suc i) d) w i (length-words-at b at i)
-    ∙ sym (append-snoc (words-at b at i) w (drop (suc i) d))
-    ∙ rw (add-one i, words-at-snoc b at i)
+fill-more b d at i h = written-more (words-at b at i) d i (word-at b (at + 4 * i)) (length-words b at i) h ∙ rw (add-one i, words-at-snoc b at i)
 
 -- a turn of one that writes them two at a time
 pub fill-two-more : (b : List ℕ) (d : List ℤ) (at i : ℕ) → 2 * i + 1 < length d
@@ -45,10 +35,6 @@ fill-two-more b d at i h =
     ∙ ap (λ (l : List ℤ). set l (2 * i + 1) (word-at b (at + 4 * (2 * i + 1)))) (fill-more b d at (2 * i) (omega arith))
     ∙ fill-more b d at (2 * i + 1) h
     ∙ ap (λ (k : ℕ). words-at b at k ++ drop k d) (sym n)
-
--- after its last turn
-pub filled-all : (b : List ℕ) (d : List ℤ) (at i : ℕ) → length d ≤ i → words-at b at i ++ drop i d ≡ words-at b at i
-filled-all b d at i h = rw (drop-of-length-le d h) (append-nil (words-at b at i))
 
 -- three words stored, and the others lent to be filled with x
 pub three-then-lent : (d x : List ℤ) (a b e : ℤ) → length d ≡ 23 → putMid 3 20 (set (set (set d 0 a) 1 b) 2 e) x ≡ a ∷ (b ∷ (e ∷ x))

@@ -1,6 +1,6 @@
--- A list filled from the front from another, over any element, as a loop goes that copies ws over d.
+-- A list filled from the front, over any element, as a loop goes that writes over d; and where it copies ws.
 use mathlib.Core.Path.{_≡_, sym, ap, _∙_}
-use mathlib.Core.List.{List, _++_, append-nil}
+use mathlib.Core.List.{List, [], _∷_, _++_, append-nil}
 use Prim.Native.Nat.{ℕ, suc, _+_, _≤_, _<_}
 use native.Mathlib.Numerals.{add-one}
 use native.Mathlib.Omega.{arith}
@@ -9,6 +9,18 @@ use lib.ListN.{length, take, drop, getD, set, length-set, drop-of-length-le}
 use lib.Seq.{take-suc, drop-cons, set-at, append-snoc, length-take-le, take-all}
 
 module _ {A : Type 0} where
+  -- A turn, where x is written before what d had.
+  pub written-more : (x d : List A) (i : ℕ) (v : A) → length x ≡ i → i < length d → set (x ++ drop i d) i v ≡ (x ++ (v ∷ [])) ++ drop (i + 1) d
+  written-more x d i v e h =
+      ap (λ (r : List A). set (x ++ r) i v) (drop-cons d i v h)
+      ∙ set-at x (getD d i v) (drop (suc i) d) v i e
+      ∙ sym (append-snoc x v (drop (suc i) d))
+      ∙ rw add-one
+
+  -- after the last turn
+  pub written-all : (x d : List A) (i : ℕ) → length d ≤ i → x ++ drop i d ≡ x
+  written-all x d i h = rw (drop-of-length-le d h) (append-nil x)
+
   -- After i turns: the first i of ws, then what d had.
   pub record Copied (ws d : List A) (i : ℕ) (to : List A) : Type 0 where
     pub so-far : to ≡ take i ws ++ drop i d
@@ -18,11 +30,7 @@ module _ {A : Type 0} where
 
   set-more : (ws d : List A) (i : ℕ) (z : A) → i < length ws → i < length d
       → set (take i ws ++ drop i d) i (getD ws i z) ≡ take (i + 1) ws ++ drop (i + 1) d
-  set-more ws d i z hw hd =
-      ap (λ (r : List A). set (take i ws ++ r) i (getD ws i z)) (drop-cons d i z hd)
-      ∙ set-at (take i ws) (getD d i z) (drop (suc i) d) (getD ws i z) i (length-take-le i ws (le-of-lt hw))
-      ∙ sym (append-snoc (take i ws) (getD ws i z) (drop (suc i) d))
-      ∙ rw (add-one, take-suc ws i z)
+  set-more ws d i z hw hd = written-more (take i ws) d i (getD ws i z) (length-take-le i ws (le-of-lt hw)) hd ∙ rw (add-one, take-suc ws i z)
 
   -- a turn, which stores x
   pub copy-more : {ws d to : List A} {i : ℕ} (z x : A) → Copied ws d i to → i < length ws → x ≡ getD ws i z → Copied ws d (i + 1) (set to i x)
@@ -33,9 +41,8 @@ module _ {A : Type 0} where
     within = omega arith;
   }
 
-  -- after the last turn
   pub filled-all : (ws d : List A) (i : ℕ) → length ws ≤ i → length d ≤ i → take i ws ++ drop i d ≡ ws
-  filled-all ws d i hw hd = rw (take-all i ws, drop-of-length-le d) (append-nil ws)
+  filled-all ws d i hw hd = rw (take-all i ws) (written-all ws d i hd)
 
   pub copied-all : {ws d to : List A} {i : ℕ} → Copied ws d i to → length ws ≤ i → to ≡ ws
   copied-all {ws} {d} {to} {i} c h = c .so-far ∙ filled-all ws d i h (omega arith)

@@ -1,8 +1,8 @@
 """Blank pairs come last: one before a filled pair draws 12. An offer held with such a blank, of an older or a damaged book, is walked to its last pair."""
 from itertools import combinations
 
-from .form import (GENERATION, LEAST, LINK, LOAD, MOST, both, capability, cell, clock, filler, look_up, notice, outage, pairs_at, standing, total,
-                   variation, with_bytes, with_words)
+from .form import (GENERATION, LEAST, LINK, LOAD, MOST, both, capability, cell, clock, filler, look_up, notices, outage, pairs_at, standing, total, variation,
+                   with_bytes, with_words)
 
 USED = (10, 5, 5, 5, 5)  # pairs by service
 BLANK = (0, 0)
@@ -40,8 +40,7 @@ def _shut(t, w=GENERATION):
     """Inside the gate of period 100, every notice over it and, but for a link, an outage."""
     t.open(1, 5)
     t.call(capability(0, w))
-    for kind in (3, 4, 5):
-        t.call(notice(kind, 100, 100))
+    notices(t, 100, 100)
     t.call(clock(2950))
     if w[0] != 3:
         t.call(outage(0, 2950, 2))

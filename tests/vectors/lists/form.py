@@ -124,6 +124,40 @@ def one_of_each(period=100, slot=100):
             notice(3, 4, 5), withdrawal(), look_up(0, 0, period), total(0, period)]
 
 
+
+# ---- calls that lists share ----
+
+def of_each_kind(t):
+    """Facility 0 is a generation, 1 a load and 2 a link."""
+    t.open(3, 5)
+    for f, w in enumerate((GENERATION, LOAD, LINK)):
+        t.call(capability(f, w))
+
+
+def notices(t, first, last):
+    """Every notice, over these periods."""
+    for kind in (3, 4, 5):
+        t.call(notice(kind, first, last))
+
+
+def notices_over_100(t, filed, backs, back_again):
+    """Over 50 tenths, inside the gate of period 100: `filed` with reasons 3, 4 and 5 without the notice, with it before, after and over the period, of another
+    kind, and withdrawn; `backs` are reason, tenths, and the reason by which `back_again` restores the 50."""
+    for reason, quantity, back in backs:
+        t.call(filed([(1, quantity)], reason), 17)
+        for first, last, number in ((99, 99, 17), (101, 101, 17), (0, 99, 17), (101, 40_000_000, 17), (100, 100, 0), (99, 101, 0)):
+            t.call(notice(reason, first, last))
+            t.call(filed([(1, quantity)], reason), number)
+            if number == 0:
+                t.call(notice(back, 100, 100))
+                back_again(back)
+                t.call(notice(back, 1, 2))
+        t.call(notice(reason, 1, 2))
+    t.call(notice(5, 100, 100))
+    t.call(withdrawal())
+    t.call(filed([(1, 60)], 5), 17)
+
+
 # ---- lines ----
 
 class Script:

@@ -1,5 +1,5 @@
 """Offers too fresh for the schedule: word 0 by the age of the offer in force, the ramps and the minute that a cell keeps, and damaged books."""
-from .form import (GENERATION, LEAST, LINK, LOAD, MOST, STANDING_AT, VARIATION_AT, block, both, capability, cell, clock, filler, look_up, notice, outage,
+from .form import (GENERATION, LEAST, MOST, STANDING_AT, VARIATION_AT, block, both, capability, cell, clock, filler, look_up, notice, of_each_kind, outage,
                    pairs_at, standing, total, variation, with_bytes, with_words)
 
 FAST = with_words(GENERATION, {7: 9999, 8: 9999})  # the largest ramp maxima that a capability may have
@@ -46,9 +46,7 @@ def every_age(t):
 
 def every_kind(t):
     """Generation, load and link, each with offers of its own minute."""
-    t.open(3, 5)
-    for f, w in enumerate((GENERATION, LOAD, LINK)):
-        t.call(capability(f, w))
+    of_each_kind(t)
     for f, s in ((0, 4), (1, 2), (2, 0)):
         t.call(clock(2 * f))
         both(t, f, s, 100, [(1, 5)], 0, proportion=filler(s))

@@ -1,6 +1,6 @@
 """The import link, kind 3: its capability, outages and offers by service, the reasons open to it, readings, and damaged books; beside generation and load."""
-from .form import (GENERATION, LEAST, LINK, LOAD, MOST, block, both, capability, cell, clock, filler, look_up, notice, outage, pairs_at, standing, total,
-                   variation, with_bytes, with_words, withdrawal)
+from .form import (GENERATION, LEAST, LINK, LOAD, MOST, block, both, capability, cell, clock, filler, look_up, notice, notices, notices_over_100, outage,
+                   pairs_at, standing, total, variation, with_bytes, with_words)
 
 BARE = (0,) * 17  # no kind, no maximum, no mark
 
@@ -241,8 +241,7 @@ def reasons_by_kind_with_a_link(t):
                 t.call(clock(30 * period - 65))
                 t.call(variation(f, s, period, [(1, 50)], 0, filler(s)))
                 t.call(clock(30 * period - 30))
-                for kind in (3, 4, 5):
-                    t.call(notice(kind, period, period))
+                notices(t, period, period)
                 t.call(outage(f, 30 * period - 30, 1), 7 if f == 0 else 0)
                 holds = {0: False, 1: f == 1, 2: f == 1, 3: s == 0 and quantity < 50, 4: quantity > 50, 5: quantity > 50, 6: f == 2}[reason]
                 t.call(variation(f, s, period, [(1, quantity)], reason, filler(s)), 0 if holds else 17)
@@ -256,20 +255,12 @@ def notices_of_a_link(t):
     t.call(capability(0, LINK))
     t.call(standing(0, 0, 100, [(1, 50)]))
     t.call(clock(2950))
-    for reason, quantity, back in ((3, 40, 5), (4, 60, 3), (5, 60, 3)):
-        t.call(variation(0, 0, 100, [(1, quantity)], reason), 17)
-        for first, last, number in ((99, 99, 17), (101, 101, 17), (0, 99, 17), (101, 40_000_000, 17), (100, 100, 0), (99, 101, 0)):
-            t.call(notice(reason, first, last))
-            t.call(variation(0, 0, 100, [(1, quantity)], reason), number)
-            if number == 0:
-                t.call(notice(back, 100, 100))
-                t.call(variation(0, 0, 100, [], back))
-                t.call(look_up(0, 0, 100), 0, 1, 50)
-                t.call(notice(back, 1, 2))
-        t.call(notice(reason, 1, 2))
-    t.call(notice(5, 100, 100))
-    t.call(withdrawal())
-    t.call(variation(0, 0, 100, [(1, 60)], 5), 17)
+
+    def back_again(reason):
+        t.call(variation(0, 0, 100, [], reason))
+        t.call(look_up(0, 0, 100), 0, 1, 50)
+
+    notices_over_100(t, lambda pairs, reason: variation(0, 0, 100, pairs, reason), ((3, 40, 5), (4, 60, 3), (5, 60, 3)), back_again)
     t.words()
 
 
@@ -300,8 +291,7 @@ def take_backs_of_a_link(t):
         t.call(variation(f, 0, 60, [(1, 20)]))
         t.call(variation(f, 0, 60, []))
         t.call(look_up(f, 0, 60), *((19,) if f else (0, 3, 50)))
-    for kind in (3, 4, 5):
-        t.call(notice(kind, 0, 1000))
+    notices(t, 0, 1000)
     for step, (varied, numbers) in enumerate(((20, {0: 17, 1: 17, 2: 17, 3: 17, 6: 17, 4: 0}), (20, {5: 0}), (50, {3: 17, 4: 17, 5: 17, 1: 17}), (80, {4: 17, 5: 17, 6: 17, 3: 0}))):
         period = 60 + 336 * (step + 1)
         t.call(clock(30 * period - 65))
@@ -322,8 +312,7 @@ def standing_offers_of_a_link(t):
     """A link's first standing offer passes the gate at any minute; over a held one and without a reason it is refused inside 65 minutes, notices or not."""
     t.open(1, 1)
     t.call(capability(0, LINK))
-    for kind in (3, 4, 5):
-        t.call(notice(kind, 0, 1000))
+    notices(t, 0, 1000)
     t.call(clock(2999))
     t.call(standing(0, 0, 100, [(1, 50)]))
     t.call(standing(0, 0, 100, [(1, 60)]), 17)
@@ -436,8 +425,7 @@ def generation_turned_into_a_link(t):
     t.call(standing(0, 1, 100, [(1, 50)], 1))
     t.call(clock(2980))
     t.call(outage(0, 2980, 3))
-    for kind in (3, 4, 5):
-        t.call(notice(kind, 100, 100))
+    notices(t, 100, 100)
     t.write({block(0): 3})
     t.words('turned')
     for reason in (0, 1, 2, 6):
@@ -501,8 +489,7 @@ def load_marks_damaged(t):
     t.call(standing(0, 0, 100, [(1, 50)]))
     t.call(clock(2980))
     t.call(outage(0, 2980, 4))
-    for kind in (3, 4, 5):
-        t.call(notice(kind, 100, 100))
+    notices(t, 100, 100)
     for reason, quantity, number in ((0, 40, 17), (1, 40, 17), (2, 40, 17), (3, 40, 0), (4, 41, 0), (5, 42, 0), (6, 30, 0)):
         t.call(variation(0, 0, 100, [(1, quantity)], reason), number)
     t.call(capability(0, with_words(LOAD, {12: 1})), 8)

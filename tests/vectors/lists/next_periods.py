@@ -1,7 +1,7 @@
 """A slot's next period: the least of the slot not yet begun, at the edges of periods, days, weeks and the clock's range; and the gate of standing offers by it."""
 from itertools import count
 
-from .form import GENERATION, LINK, LOAD, capability, clock, filler, look_up, standing, total
+from .form import GENERATION, capability, clock, filler, look_up, of_each_kind, standing, total
 
 LAST_MINUTE = 1_000_000_000
 FIRST_WEEK, MIDDLE_WEEK, LAST_WEEK = range(0, 336), range(16_666_666, 16_667_002), range(33_332_998, 33_333_334)
@@ -107,9 +107,7 @@ def gate_in_the_first_weeks(t):
 
 def gate_by_kind(t):
     """Generation, load and link, by service: one rule for all."""
-    t.open(3, 5)
-    for f, w in enumerate((GENERATION, LOAD, LINK)):
-        t.call(capability(f, w))
+    of_each_kind(t)
     for day, (f, s) in enumerate(((0, 0), (0, 2), (0, 4), (1, 1), (1, 3), (2, 0))):
         _over_a_held_one(t, f, s, 48 * day + 47)
     t.words()

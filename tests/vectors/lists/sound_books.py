@@ -1,5 +1,5 @@
 """Sound books over time: the paper's cases and worked run, weeks, gate closure and its reasons, notices, totals, nothing in force."""
-from .form import GENERATION, LOAD, capability, clock, filler, look_up, notice, outage, standing, total, variation, with_words, withdrawal
+from .form import GENERATION, LOAD, capability, clock, filler, look_up, notice, notices, outage, standing, total, variation, with_words, withdrawal
 
 PROGRAM_LIMITS = (-450000, 450000, 450000, 450000, 450000, 450000)
 
@@ -177,8 +177,7 @@ def reasons_by_kind(t):
     t.open(2, 5)
     t.call(capability(0, with_words(GENERATION, {6: 300})))
     t.call(capability(1, LOAD))
-    for kind in (3, 4, 5):
-        t.call(notice(kind, 0, 40_000_000))
+    notices(t, 0, 40_000_000)
     period = 1
     for f, services in ((0, (0, 1, 4)), (1, (1, 3))):
         for s in services:
@@ -223,8 +222,7 @@ def no_old_offer_inside_the_gate(t):
     t.open(3, 5)
     for f in range(3):
         t.call(capability(f, GENERATION))
-    for kind in (3, 4, 5):
-        t.call(notice(kind, 0, 1000))
+    notices(t, 0, 1000)
     t.call(variation(0, 0, 1), 17)
     for reason in (3, 4, 5):
         t.call(variation(0, 0, 1, [], reason), 17)
@@ -328,8 +326,7 @@ def variation_after_a_withdrawal(t):
     t.open(1, 5)
     t.call(capability(0, GENERATION))
     t.call(clock(30 * 99))
-    for kind in (3, 4, 5):
-        t.call(notice(kind, 100, 101))
+    notices(t, 100, 101)
     t.call(variation(0, 0, 100, [(1, 50)], 5))
     t.call(withdrawal())
     t.words()

@@ -1,24 +1,12 @@
 """Reasons of standing offers: a standing offer over a held one inside 65 minutes of its slot's next period, judged as a variation is."""
-from .form import (GENERATION, LEAST, LINK, LOAD, MOST, STANDING_AT, VARIATION_AT, block, capability, clock, filler, look_up, notice, one_of_each, outage, pairs_at,
-                   standing, total, variation, with_bytes, with_words, withdrawal)
+from .form import (GENERATION, LEAST, LOAD, MOST, STANDING_AT, VARIATION_AT, block, capability, clock, filler, look_up, notice, notices, notices_over_100,
+                   of_each_kind, one_of_each, outage, pairs_at, standing, total, variation, with_bytes, with_words)
 
 HELD = [(4000, 500), (5000, 200)]
 
 
 def _again(f, s, slot, pairs, reason=0):
     return standing(f, s, slot, pairs, filler(s), reason=reason)
-
-
-def _of_each_kind(t):
-    """Facility 0 is a generation, 1 a load and 2 a link."""
-    t.open(3, 5)
-    for f, w in enumerate((GENERATION, LOAD, LINK)):
-        t.call(capability(f, w))
-
-
-def _notices(t, first, last):
-    for kind in (3, 4, 5):
-        t.call(notice(kind, first, last))
 
 
 def _shut_over_50_tenths(t, f, s, period):
@@ -33,7 +21,7 @@ def _held(t, now, pairs=HELD, sizes=(1, 1)):
     t.open(*sizes)
     t.call(capability(0, GENERATION))
     t.call(standing(0, 0, 100, pairs))
-    _notices(t, 100, 100)
+    notices(t, 100, 100)
     t.call(clock(2935))
     t.call(outage(0, 2935, 3))
     t.call(clock(now))
@@ -94,7 +82,7 @@ def with_minutes_left(t):
 
 def first_ones_inside_the_gate(t):
     """A first standing offer passes the gate with any reason from 0 to 6, whatever its kind and without any window; 7 and above draw 11."""
-    _of_each_kind(t)
+    of_each_kind(t)
     for reason in (*range(9), 128, 255):
         slot = 10 + reason
         t.call(clock(30 * slot - 1))
@@ -106,7 +94,7 @@ def first_ones_inside_the_gate(t):
 
 def open_ones(t):
     """Over a held offer with 65 minutes left any reason from 0 to 6 passes, whatever its kind, its windows and its prices; 7 and above draw 11."""
-    _of_each_kind(t)
+    of_each_kind(t)
     t.call(clock(2935))
     for f, s in ((0, 0), (0, 2), (0, 4), (1, 1), (2, 0)):
         t.call(_again(f, s, 100, [(1, 5)]))
@@ -122,8 +110,8 @@ def open_ones(t):
 
 def reasons_of_standing_offers_by_kind(t):
     """Each reason inside the gate by kind and service, every window over the period: less, as much and more than the held 50 tenths."""
-    _of_each_kind(t)
-    _notices(t, 0, 40_000_000)
+    of_each_kind(t)
+    notices(t, 0, 40_000_000)
     period = 1
     for f, s in ((0, 0), (0, 1), (0, 4), (1, 1), (1, 3), (2, 0)):
         for reason in range(7):
@@ -161,21 +149,13 @@ def notices_over_the_next_period(t):
     t.call(capability(0, GENERATION))
     t.call(standing(0, 0, 100, [(1, 50)]))
     t.call(clock(2950))
-    for reason, quantity, back in ((3, 40, 4), (4, 60, 3), (5, 60, 3)):
-        t.call(_again(0, 0, 100, [(1, quantity)], reason), 17)
-        for first, last, number in ((99, 99, 17), (101, 101, 17), (0, 99, 17), (101, 40_000_000, 17), (100, 100, 0), (99, 101, 0)):
-            t.call(notice(reason, first, last))
-            t.call(_again(0, 0, 100, [(1, quantity)], reason), number)
-            if number == 0:
-                t.call(notice(back, 100, 100))
-                t.call(_again(0, 0, 100, [(1, 50)], back))
-                t.call(notice(back, 1, 2))
-        t.call(notice(reason, 1, 2))
+
+    def filed(pairs, reason):
+        return _again(0, 0, 100, pairs, reason)
+
+    notices_over_100(t, filed, ((3, 40, 4), (4, 60, 3), (5, 60, 3)), lambda reason: t.call(filed([(1, 50)], reason)))
     t.call(notice(5, 100, 100))
-    t.call(withdrawal())
-    t.call(_again(0, 0, 100, [(1, 60)], 5), 17)
-    t.call(notice(5, 100, 100))
-    t.call(_again(0, 0, 100, [(1, 60)], 5))
+    t.call(filed([(1, 60)], 5))
     t.words()
 
 
@@ -375,8 +355,8 @@ def a_variation_alone_is_no_held_offer(t):
 
 def blank_over_a_held_offer(t):
     """A standing offer of blanks has total 0: 1, 2 and 3 pass it where they hold, of a load 6, of a link 3; 4 and 5 don't; it is in force with 0.0 MW."""
-    _of_each_kind(t)
-    _notices(t, 0, 40_000_000)
+    of_each_kind(t)
+    notices(t, 0, 40_000_000)
     period = 1
     for f, s, passing in ((0, 0, (1, 2, 3)), (0, 2, (1, 2)), (0, 4, (1, 2)), (1, 1, (6,)), (2, 0, (3,))):
         for reason in range(7):
@@ -442,8 +422,8 @@ def tripped_set_stands_at_zero(t):
 
 def duplicates_inside_the_gate(t):
     """The held offer sent again: 18 with 1, 2 or a load's 6 where they hold, else 17, as 3, 4 and 5 ask for another total; the reason is no part of the offer."""
-    _of_each_kind(t)
-    _notices(t, 0, 1000)
+    of_each_kind(t)
+    notices(t, 0, 1000)
     places = ((0, 0, (1, 2)), (0, 3, (1, 2)), (1, 3, (6,)), (2, 0, ()))
     for f, s, _ in places:
         t.call(_again(f, s, 100, [(1, 50)], 5))
@@ -588,7 +568,7 @@ def stamps_that_hold_nothing(t):
 
 def damaged_windows(t):
     """Windows that the host wrote, wide, empty and turned round; a link's outage window doesn't open 2 or 6, nor a load's 2, nor generation's 6."""
-    _of_each_kind(t)
+    of_each_kind(t)
     services = (0, 1, 0)
     for f in range(3):
         t.call(_again(f, services[f], 100, [(1, 50)]))

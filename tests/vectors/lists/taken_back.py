@@ -1,5 +1,5 @@
 """Variations taken back: a variation of blanks alone, with the gate open and inside it, over each thing that its cell and the standing cell may hold."""
-from .form import (GENERATION, LEAST, LOAD, MOST, STANDING_AT, VARIATION_AT, block, capability, cell, clock, filler, look_up, notice, outage, pairs_at,
+from .form import (GENERATION, LEAST, LOAD, MOST, STANDING_AT, VARIATION_AT, block, capability, cell, clock, filler, look_up, notice, notices, outage, pairs_at,
                    standing, total, variation, with_bytes, with_words, withdrawal)
 
 
@@ -285,8 +285,7 @@ def _reasons(t, f, s, all_held):
     t.open(2, 5)
     t.call(capability(0, with_words(GENERATION, {6: 300})))
     t.call(capability(1, LOAD))
-    for kind in (3, 4, 5):
-        t.call(notice(kind, 0, 40_000_000))
+    notices(t, 0, 40_000_000)
     period = 10
     for held in all_held:
         period = _by_reason(t, f, s, period, held)
@@ -314,8 +313,7 @@ def nothing_to_take_back_inside_the_gate(t):
     t.open(4, 5)
     for f in range(4):
         t.call(capability(f, LOAD if f >= 2 else GENERATION))
-    for kind in (3, 4, 5):
-        t.call(notice(kind, 0, 1000))
+    notices(t, 0, 1000)
     t.call(standing(0, 1, 100, [(1, 5), (2, 6)], 1))
     t.call(standing(2, 1, 100, [(1, 5), (2, 6)], 1))
     t.call(clock(2970))
@@ -422,8 +420,7 @@ def _damaged_book(t):
     t.call(capability(0, GENERATION))
     t.call(standing(0, 0, 100, [(4000, 70)]))
     t.call(variation(0, 0, 100, [(4000, 60)]))
-    for kind in (3, 4, 5):
-        t.call(notice(kind, 100, 100))
+    notices(t, 100, 100)
     t.call(clock(2990))
 
 

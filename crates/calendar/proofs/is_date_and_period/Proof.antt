@@ -2,14 +2,13 @@
 use borrow.Author.Needs.{needs}
 use native.Mathlib.Omega.{arith}
 use mathlib.Core.Path.{_≡_, sym, ap, _∙_}
-use mathlib.Core.Bool.{true}
+use mathlib.Core.Bool.{true, and-false, and-true}
 use Prim.Native.Nat.{_+_, _-_}
 use lib.IntN.{pos}
 use mir.Syntax.{w32}
 use mir.Facts.{toZ-ofZ}
 use Rattle.offer_rules.specs.Numbers.{toNat, between, beyond}
 use Rattle.offer_rules.specs.Time.{periods-a-day}
-use Rattle.offer_rules.proofs.Drawn.{and-false, and-true}
 use Rattle.offer_rules.proofs.Ranges.{between-low, between-high}
 use Rattle.calendar_rules.specs.Calendar.{first-year, last-year, month-days, is-leap, date-exists}
 use Rattle.calendar_rules.specs.Answers.{is-date-and-period}

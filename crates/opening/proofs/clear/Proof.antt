@@ -5,7 +5,8 @@ use native.Mathlib.Omega.{arith}
 use lib.ListN.{length, drop, length-set}
 use borrow.Author.Needs.{needs}
 use Rattle.offer_rules.specs.Numbers.{zeros}
-use Rattle.opening.proofs.Filling.{clear-more, filled-all}
+use Rattle.units.proofs.Copying.{written-all}
+use Rattle.opening.proofs.Filling.{clear-more}
 use Rattle.opening.proofs.clear.Statement.{statement}
 use Rattle.opening.proofs.clear.Tie as tie
 
@@ -44,7 +45,7 @@ returns c =
     let l = c .before .loop in
     let d = c .before .before .args .words .now in
     let e : l .i ≡ length d = omega arith in
-    l .inv .2 ∙ filled-all (zeros (l .i)) d (l .i) (omega arith) ∙ ap zeros e
+    l .inv .2 ∙ written-all (zeros (l .i)) d (l .i) (omega arith) ∙ ap zeros e
 
 pub clear-spec : {M : Type 1} → statement M
 clear-spec =

@@ -1,23 +1,17 @@
-use mathlib.Core.Path.{_≡_, refl, _∙_}
-use mathlib.Core.Bool.{Bool, true, false, not, _&&_}
+use mathlib.Core.Path.{_≡_}
+use mathlib.Core.Bool.{true, and-assoc}
 use native.Mathlib.Omega.{arith}
 use lib.Dec.{leb}
 use lib.ListN.{length}
 use mir.Facts.{sfits-lit}
 use borrow.Author.Tests.{lt-leb, le-leb}
 use borrow.Author.Needs.{needs, sfits-of}
-use Rattle.offer_rules.specs.Numbers.{eqZ, toNat, word}
-use Rattle.book_rules.specs.Record.{sizes-ok}
-use Rattle.book_rules.specs.Words.{book-size, book-mark, book-version, clock-place, is-book}
+use Rattle.offer_rules.specs.Numbers.{word}
+use Rattle.book_rules.specs.Words.{book-mark, book-version, clock-place, is-book}
 use Rattle.units.proofs.Counts.{word-back}
 use Rattle.units.proofs.Signs.{eqb-bits}
 use Rattle.opening.proofs.is_book.Statement.{statement}
 use Rattle.opening.proofs.is_book.Tie as tie
-
-regroup : (a b c d : Bool) → ((a && (b && c)) && d) ≡ ((a && b) && (c && d))
-regroup true true c d = refl
-regroup true false c d = refl
-regroup false b c d = refl
 
 returns : tie.Need-returns
 unfolding is-book
@@ -56,10 +50,7 @@ returns-2 c =
     let mark = eqb-bits (word w 0) book-mark (sfits-of (c .before .before .before .before .before .before .headed .given)) (sfits-lit tt) in
     let version = eqb-bits (word w 1) book-version (sfits-of (c .before .before .before .before .before .headed2 .given)) (sfits-lit tt) in
     let long : leb 64 (length w) ≡ true = le-leb 64 (length w) (omega arith) in
-    let head = eqZ (word w 0) book-mark && eqZ (word w 1) book-version in
-    let sizes = sizes-ok (word w 2) (word w 3) in
-    let room = leb (book-size (toNat (word w 2)) (toNat (word w 3))) (length w) in
-    rw (mark, version, fits .ensures, F, S) (regroup head sizes room (not (c .is-beyond .result)) ∙ rw (c .is-beyond .ensures, clock, long))
+    rw (mark, version, fits .ensures, F, S, c .is-beyond .ensures, clock, long) (simp and-assoc)
 
 pub is-book-spec : {M : Type 1} → statement M
 is-book-spec =

@@ -6,7 +6,9 @@ use native.Mathlib.Omega.{arith}
 use lib.ListN.{length, drop}
 use borrow.Author.Needs.{needs}
 use Rattle.book_rules.specs.Words.{empty-facility, empty-facilities}
-use Rattle.opening.proofs.Filling.{length-facility, length-facilities, facilities-snoc, filled-all}
+use Rattle.book_rules.proofs.Opening.{length-facilities}
+use Rattle.units.proofs.Copying.{written-all}
+use Rattle.opening.proofs.Filling.{length-facility, facilities-snoc}
 use Rattle.opening.proofs.LentParts.{lent-next}
 use Rattle.opening.proofs.write_facilities.Statement.{statement}
 use Rattle.opening.proofs.write_facilities.Tie as tie
@@ -70,7 +72,7 @@ returns c =
     let l = c .before .loop in
     let d = c .before .before .args .words .now in
     let e : l .f ≡ c .before .before .args .facilities = omega arith in
-    l .inv .3 ∙ filled-all (empty-facilities (l .f)) d (32 * l .f) (omega arith) ∙ ap empty-facilities e
+    l .inv .3 ∙ written-all (empty-facilities (l .f)) d (32 * l .f) (omega arith) ∙ ap empty-facilities e
 
 pub write-facilities-spec : {M : Type 1} → statement M
 write-facilities-spec =

@@ -7,7 +7,8 @@ use borrow.Rule.Slice.PartMut.{midOf, putMid}
 use borrow.Author.Needs.{needs}
 use Rattle.offer_rules.specs.Numbers.{zeros}
 use Rattle.book_rules.specs.Words.{book-size, empty-facilities, opening-head, opened}
-use Rattle.opening.proofs.Filling.{zeros-by-length, length-facilities, length-head}
+use Rattle.book_rules.proofs.Opening.{length-facilities, length-head}
+use Rattle.opening.proofs.Filling.{zeros-by-length}
 use Rattle.opening.proofs.LentParts.{lent-three}
 use Rattle.opening.proofs.write_words.Statement.{statement}
 use Rattle.opening.proofs.write_words.Tie as tie

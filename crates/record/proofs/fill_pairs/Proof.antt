@@ -8,7 +8,8 @@ use native.Mathlib.Omega.{arith}
 use lib.ListN.{length, drop, length-set}
 use mir.Facts.{toZ-ofZ}
 use Rattle.book_rules.specs.Record.{words-at}
-use Rattle.record.proofs.WordLists.{fill-two-more, filled-all}
+use Rattle.units.proofs.Copying.{written-all}
+use Rattle.record.proofs.WordLists.{fill-two-more}
 use Rattle.record.proofs.fill_pairs.Statement.{statement}
 use Rattle.record.proofs.fill_pairs.Tie as tie
 
@@ -101,7 +102,7 @@ returns c =
     let l = c .before .loop in
     let e : 2 * l .i ≡ length (s .args .words .now) = omega arith in
     l .inv .3
-    ∙ filled-all (s .args .bytes .now) (s .args .words .now) (s .args .at) (2 * l .i) (omega arith)
+    ∙ written-all (words-at (s .args .bytes .now) (s .args .at) (2 * l .i)) (s .args .words .now) (2 * l .i) (omega arith)
     ∙ ap (words-at (s .args .bytes .now) (s .args .at)) e
 
 pub fill-pairs-spec : {M : Type 1} → statement M

@@ -8,7 +8,8 @@ use native.Mathlib.Omega.{arith}
 use lib.ListN.{length, drop, length-set}
 use mir.Facts.{toZ-ofZ}
 use Rattle.book_rules.specs.Record.{words-at}
-use Rattle.record.proofs.WordLists.{fill-more, filled-all}
+use Rattle.units.proofs.Copying.{written-all}
+use Rattle.record.proofs.WordLists.{fill-more}
 use Rattle.record.proofs.fill_words.Statement.{statement}
 use Rattle.record.proofs.fill_words.Tie as tie
 
@@ -63,7 +64,7 @@ returns c =
     let l = c .before .loop in
     let e : l .i ≡ length (s .args .words .now) = omega arith in
     l .inv .3
-    ∙ filled-all (s .args .bytes .now) (s .args .words .now) (s .args .at) (l .i) (omega arith)
+    ∙ written-all (words-at (s .args .bytes .now) (s .args .at) (l .i)) (s .args .words .now) (l .i) (omega arith)
     ∙ ap (words-at (s .args .bytes .now) (s .args .at)) e
 
 pub fill-words-spec : {M : Type 1} → statement M
