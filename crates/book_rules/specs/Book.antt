@@ -10,7 +10,7 @@ use Rattle.offer_rules.specs.Time.{slot-of}
 use Rattle.offer_rules.specs.Offer.{Held, accepted-at}
 use Rattle.offer_rules.specs.Gate.{Window}
 use Rattle.book_rules.specs.Record.{call-of, facility-of, service-of, period-word, reason-of, word-A, word-B, capability-in, offer-in}
-use Rattle.book_rules.specs.Words.{part, put, clock-place, notice-place, limits-place, facility-place, outage-place, cell-place, standing-half, variation-half, cell, cell-stamp, cell-held, holding, standing-stamp, variation-stamp, is-book}
+use Rattle.book_rules.specs.Words.{part, put, clock-place, notice-place, limits-place, facility-place, outage-place, cell-width, cell-place, standing-half, variation-half, cell, cell-stamp, cell-held, holding, standing-stamp, variation-stamp, is-book}
 use Rattle.book_rules.specs.Force.{View, empty-window, outage-window, variation-made, Answer, plain}
 use Rattle.book_rules.specs.Refusals.{answer, after}
 
@@ -34,7 +34,7 @@ held stamp c = cond (eqZ (cell-stamp c) (pos stamp)) (some (cell-held c)) none
 
 -- A cell's 24 words in a book of these sizes.
 abbrev pub cell-in : List ℤ → ℕ → ℕ → ℕ → ℕ → List ℤ
-cell-in w f s h k = part (cell-place (facilities-in w) (services-in w) f s h k) 24 w
+cell-in w f s h k = part (cell-place (facilities-in w) (services-in w) f s h k) cell-width w
 
 unfoldable pub book-view : List ℤ → View
 book-view w = record {

@@ -8,7 +8,7 @@ use lib.Dec.{eqb}
 use lib.IntN.{ℤ, pos}
 use lib.Signed.{leZ}
 use Rattle.offer_rules.specs.Numbers.{eqZ, toNat, between, beyond, any-beyond, draw, _then_}
-use Rattle.offer_rules.specs.Time.{next-period, slot-refused, period-refused}
+use Rattle.offer_rules.specs.Time.{last-minute, next-period, slot-refused, period-refused}
 use Rattle.offer_rules.specs.Kinds.{kind-row, is-kind, may-offer, may-be-marked}
 use Rattle.offer_rules.specs.Offer.{Pair, pairs, Held, kind-of, mark-for, offer-number}
 use Rattle.offer_rules.specs.Gate.{Grounds, gate-refuses}
@@ -24,7 +24,7 @@ facility-number c = draw (not (has-kind c)) 5
 
 -- 6 "A below now or above 1,000,000,000"
 abbrev pub clock-refused : ℕ → ℤ → Bool
-clock-refused now a = beyond (pos now) (pos 1000000000) a
+clock-refused now a = beyond (pos now) (pos last-minute) a
 
 unfoldable pub clock-number : ℕ → ℤ → ℕ
 clock-number now a = draw (clock-refused now a) 6

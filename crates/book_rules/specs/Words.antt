@@ -8,7 +8,7 @@ use lib.IntN.{ℤ, pos, negsuc, _+ℤ_, _*ℤ_}
 use lib.Signed.{leZ, quotZ, remZ}
 use lib.ListN.{length, take, drop}
 use Rattle.offer_rules.specs.Numbers.{eqZ, toNat, word, zeros, beyond, any-beyond, draw}
-use Rattle.offer_rules.specs.Time.{slots}
+use Rattle.offer_rules.specs.Time.{last-minute, slots}
 use Rattle.offer_rules.specs.Offer.{proportion, ramp-up, ramp-down, Held, most-ramp}
 use Rattle.book_rules.specs.Record.{sizes-ok}
 
@@ -51,8 +51,11 @@ abbrev pub outage-place : ℕ → ℕ
 outage-place f = facility-place f + 17
 
 -- "Then cells of 24 words, numbered ((f·S + s)·2 + h)·336 + slot, h 0 standing, 1 variation"
+abbrev pub cell-width : ℕ
+cell-width = 24
+
 unfoldable pub cell-place : ℕ → ℕ → ℕ → ℕ → ℕ → ℕ → ℕ
-cell-place F S f s h slot = facility-place F + 24 * (((f * S + s) * 2 + h) * slots + slot)
+cell-place F S f s h slot = facility-place F + cell-width * (((f * S + s) * 2 + h) * slots + slot)
 
 abbrev pub standing-half : ℕ
 standing-half = 0
@@ -88,7 +91,7 @@ ramps-fit o = not (any-beyond (pos 0) most-ramp o 1 2)
 
 -- A cell that holds an offer under a stamp; where there is none to hold, "Its cell becomes 24 zeros" (document 02).
 unfoldable pub holding : ℕ → Option Held → List ℤ
-holding stamp none = zeros 24
+holding stamp none = zeros cell-width
 holding stamp (some h) = cell stamp h
 
 abbrev pub standing-stamp : ℕ
@@ -101,7 +104,7 @@ variation-stamp p = p + 1
 unfoldable pub is-book : List ℤ → Bool
 is-book w =
     ((leb 64 (length w) && (eqZ (word w 0) book-mark && eqZ (word w 1) book-version)) && sizes-ok (word w 2) (word w 3))
-    && (leb (book-size (toNat (word w 2)) (toNat (word w 3))) (length w) && not (beyond (pos 0) (pos 1000000000) (word w clock-place)))
+    && (leb (book-size (toNat (word w 2)) (toNat (word w 3))) (length w) && not (beyond (pos 0) (pos last-minute) (word w clock-place)))
 
 -- ---- the opening
 

@@ -7,7 +7,7 @@ use Prim.Native.Nat.{ℕ, _+_, _≤_}
 use lib.IntN.{ℤ}
 use lib.ListN.{length}
 use Rattle.offer_rules.specs.Offer.{pairs, Held, sum-of}
-use Rattle.book_rules.specs.Words.{part, book-size, cell-held}
+use Rattle.book_rules.specs.Words.{part, book-size, cell-width, cell-held}
 use Rattle.book_rules.specs.Force as force
 use Rattle.book_rules.specs.Refusals.{equal-words}
 use Rattle.book_rules.specs.Book.{facilities-in, services-in}
@@ -17,7 +17,7 @@ use Rattle.cells.specs.declared.Answer as reply
 
 -- What the cell at a place holds, and the offer of it.
 unfoldable pub held-at : List ℤ → ℕ → Held
-held-at w at = cell-held (part at 24 w)
+held-at w at = cell-held (part at cell-width w)
 
 abbrev pub offer-at : List ℤ → ℕ → List ℤ
 offer-at w at = held-at w at .offer
@@ -31,8 +31,8 @@ meaning w (Variation at) = force.offer-variation (held-at w at)
 -- Where the cell ends that a case names.
 unfoldable pub end-of : place.InForce → ℕ
 end-of Nothing = 0
-end-of (Standing at) = at + 24
-end-of (Variation at) = at + 24
+end-of (Standing at) = at + cell-width
+end-of (Variation at) = at + cell-width
 
 unfoldable pub is-nothing : place.InForce → Bool
 is-nothing Nothing = true

@@ -121,8 +121,11 @@ any-pair test [] = false
 any-pair test (x ∷ l) = test x || any-pair test l
 
 -- 11 "quantity outside 0–99,999, price outside its limits (services 1–4 from 0)"
+abbrev pub pair-beyond : ℤ → ℤ → Pair → Bool
+pair-beyond lowest highest x = beyond (pos 0) (pos 99999) (x .quantity) || beyond lowest highest (x .price)
+
 unfoldable pub pair-out-of-range : List ℤ → ℕ → Pair → Bool
-pair-out-of-range limits s x = beyond (pos 0) (pos 99999) (x .quantity) || beyond (lowest-price limits s) (highest-price limits s) (x .price)
+pair-out-of-range limits s x = pair-beyond (lowest-price limits s) (highest-price limits s) x
 
 -- 11 "reason above 6"
 unfoldable pub out-of-range : List ℤ → ℕ → ℕ → List ℤ → Bool

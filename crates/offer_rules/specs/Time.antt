@@ -9,6 +9,10 @@ use lib.IntN.{ℤ, pos, negsuc, _-ℤ_}
 use lib.Signed.{ltZ}
 use Rattle.offer_rules.specs.Numbers.{beyond}
 
+-- The clock's last minute: "outside 0 to 1,000,000,000" (1), "above 1,000,000,000" (6).
+abbrev pub last-minute : ℕ
+last-minute = 1000000000
+
 -- "Period P starts at minute 30·P."
 abbrev pub start-of : ℕ → ℕ
 start-of p = 30 * p

@@ -8,8 +8,8 @@ use lib.Dec.{eqb}
 use lib.IntN.{ℤ, pos, _+ℤ_}
 use lib.Signed.{ltZ}
 use lib.ListN.{drop}
-use Rattle.offer_rules.specs.Numbers.{eqZ, beyond, any-beyond, draw, _then_}
-use Rattle.offer_rules.specs.Offer.{Pair, any-pair, blank-refused, non-blank-prices, rises}
+use Rattle.offer_rules.specs.Numbers.{eqZ, any-beyond, draw, _then_}
+use Rattle.offer_rules.specs.Offer.{Pair, any-pair, pair-beyond, blank-refused, non-blank-prices, rises}
 use Rattle.units.specs.Typed.{price-of, quantity-of}
 use Rattle.units.specs.declared.Price.{Price}
 use Rattle.units.specs.declared.Quantity.{Quantity}
@@ -19,10 +19,10 @@ abbrev pub blank : Quantity → Bool
 blank q = eqZ (q .0) (pos 0)
 
 abbrev pub is-out-of-range : Price → Price → Price → Quantity → Bool
-is-out-of-range lowest highest p q = beyond (pos 0) (pos 99999) (q .0) || beyond (lowest .0) (highest .0) (p .0)
+is-out-of-range lowest highest p q = pair-beyond (lowest .0) (highest .0) (record { price = p .0; quantity = q .0 })
 
 abbrev pub pair-is-out : Price → Price → Pair → Bool
-pair-is-out lowest highest x = is-out-of-range lowest highest (price-of (x .price)) (quantity-of (x .quantity))
+pair-is-out lowest highest x = pair-beyond (lowest .0) (highest .0) x
 
 -- A blank pair without a price.
 abbrev pub is-empty : Price → Quantity → Bool
