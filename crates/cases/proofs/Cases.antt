@@ -5,7 +5,7 @@ use mathlib.Core.List.{List, [], _∷_, map}
 use lib.ListN.{getD, List·getD-map}
 use Rattle.offer_rules.specs.Gate.{same-prices-to}
 use Rattle.cases.specs.Records.{_at_}
-use Rattle.cases.specs.Cases.{Line, Case, answer-in, first-case, cases, EveryCase, RampsShown, CellWords, NextPeriods}
+use Rattle.cases.specs.Cases.{Line, Case, answer-in, first-case, cases, EveryCase, WordsShown, RampsShown, CellWords, NextPeriods}
 use Rattle.cases.proofs.Computes.{computes}
 
 all-answered : map answer-in cases ≡ map (λ c. c .answered) cases
@@ -18,6 +18,10 @@ every-case i =
     sym (List·getD-map answer-in cases i first-case)
     ∙ ap₂ (λ (l : List Line) (d : Line). getD l i d) all-answered (ap (λ (l : List Line). getD l 0 (answer-in first-case)) all-answered)
     ∙ List·getD-map (λ (c : Case). c .answered) cases i first-case
+
+pub words-are-shown : WordsShown
+unfolding computes WordsShown
+words-are-shown = (refl, refl)
 
 pub ramps-are-shown : RampsShown
 unfolding computes RampsShown

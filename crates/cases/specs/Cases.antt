@@ -4,14 +4,14 @@ use mathlib.Core.Path.{_≡_}
 use mathlib.Core.List.{List, [], _∷_, _++_}
 use Prim.Native.Nat.{ℕ, _+_}
 use lib.IntN.{ℤ, pos, negsuc}
-use lib.ListN.{getD, replicate}
+use lib.ListN.{getD, drop, replicate}
 use Rattle.offer_rules.specs.Numbers.{word, zeros}
 use Rattle.offer_rules.specs.Time.{next-period}
 use Rattle.offer_rules.specs.Offer.{Pair}
 use Rattle.book_rules.specs.Words.{part, put, facility-place, cell-place, standing-half, variation-half, standing-stamp, opening-words}
 use Rattle.book_rules.specs.Force.{Answer}
 use Rattle.book_rules.specs.Book.{book-answer, book-run}
-use Rattle.cases.specs.Records.{_at_, pair-words, clock, capability-words, energy-mark, capability-of, capability, standing-for, standing, with-reason, ramping, variation, outage, notice, look-up-for, look-up, total}
+use Rattle.cases.specs.Records.{_at_, pair-words, clock, capability-words, energy-mark, capability-of, capability, standing-for, standing, with-reason, with-byte-13, with-proportion, ramping, ramping-down, variation, outage, notice, look-up-for, look-up, total}
 
 -- "a book of 16,224 words, all zero before opening, F 1, S 1, energy −4,500.00 to 4,500.00, others to 4,500.00"
 abbrev pub limits : List ℤ
@@ -196,6 +196,8 @@ cases =
     -- 14 "also covers a ramp above 9,999", where only a damaged maximum lets one come
     ∷ record { book = damaged-maximum; before = []; last = ramping 9999 stands; answered = passes }
     ∷ record { book = damaged-maximum; before = []; last = ramping 10000 stands; answered = draws 14 }
+    -- Each ramp is held against its own maximum: 0.1 MW/min down against 0.0.
+    ∷ record { book = damaged-maximum; before = []; last = ramping-down 1 stands; answered = draws 14 }
     -- Another ramp is no duplicate; the same ramp is.
     ∷ record { book = damaged-maximum; before = stands ∷ []; last = ramping 7 stands; answered = passes }
     ∷ record { book = damaged-maximum; before = ramping 7 stands ∷ []; last = ramping 7 stands; answered = draws 18 }
@@ -217,6 +219,9 @@ cases =
     -- "refusal 11 covers it": also of one that the gate would pass
     ∷ over-stands [] 7 (500 at 4000 ∷ []) (draws 11)
     ∷ row (plant ∷ []) (with-reason 7 stands) (draws 11)
+    -- Byte 12 alone "leaves the unused bytes": 13 is zero in both offers.
+    ∷ row (plant ∷ []) (with-byte-13 1 stands) (draws 4)
+    ∷ row (plant ∷ []) (with-byte-13 1 (variation 4 0 (300 at 4000 ∷ []))) (draws 4)
     -- "A first one always passes the gate", whatever its reason; so does an open one.
     ∷ row (plant ∷ (clock 56 ∷ [])) (with-reason 6 stands) passes
     ∷ row (plant ∷ (stands ∷ (clock 55 ∷ []))) (with-reason 6 (standing 4 (300 at 4500 ∷ []))) passes
@@ -267,6 +272,18 @@ cases =
 -- Every row of the table holds.
 unfoldable pub EveryCase : Type 0
 EveryCase = (i : ℕ) → answer-in (getD cases i first-case) ≡ getD cases i first-case .answered
+
+-- A load that is registered for primary reserve.
+abbrev reserve-load : List ℕ
+reserve-load = capability-of (capability-words 2 0 0 (pos 0 ∷ (pos 1 ∷ replicate 3 (pos 0))))
+
+-- Words 1 to 23 of a look-up, "what its call carried": ramps and pairs of an energy offer, the proportion of a load's for reserve.
+abbrev words-shown : List ℤ → List (List ℕ) → List ℕ → List ℤ
+words-shown w before call = drop 1 (book-answer (book-run w before) call .words)
+
+unfoldable pub WordsShown : Type 0
+WordsShown = (words-shown damaged-maximum (ramping 7 stands ∷ []) (look-up 4) ≡ pos 0 ∷ (pos 7 ∷ (pos 0 ∷ (pair-words (500 at 4000 ∷ (200 at 5000 ∷ [])) ++ zeros 16))))
+    × (words-shown wide-book (reserve-load ∷ (with-proportion 5 (standing-for 1 4 []) ∷ [])) (look-up-for 1 4) ≡ pos 5 ∷ zeros 22)
 
 -- Words 2 and 3 of a look-up of period 4: as they were filed, and "quotient and remainder rounded toward zero" of −12,345.
 abbrev ramps-shown : List ℤ → List (List ℕ) → List ℤ

@@ -62,9 +62,21 @@ standing = standing-for 0
 abbrev pub with-reason : ℕ → List ℕ → List ℕ
 with-reason reason r = take 12 r ++ (reason ∷ drop 13 r)
 
+-- A record with this byte 13, which no call uses.
+abbrev pub with-byte-13 : ℕ → List ℕ → List ℕ
+with-byte-13 x r = take 13 r ++ (x ∷ drop 14 r)
+
+-- A record with this proportion, below 256.
+abbrev pub with-proportion : ℕ → List ℕ → List ℕ
+with-proportion x r = take 14 r ++ (0 ∷ (x ∷ drop 16 r))
+
 -- A record with this ramp-up rate.
 abbrev pub ramping : ℕ → List ℕ → List ℕ
 ramping rate r = take 16 r ++ (word-bytes (pos rate) ++ drop 20 r)
+
+-- A record with this ramp-down rate.
+abbrev pub ramping-down : ℕ → List ℕ → List ℕ
+ramping-down rate r = take 20 r ++ (word-bytes (pos rate) ++ drop 24 r)
 
 abbrev pub variation : ℕ → ℕ → List Pair → List ℕ
 variation period reason offer = record-bytes 4 0 0 (pos period) reason (pos 0) (pos 0) (pair-words offer)
