@@ -5,7 +5,7 @@ use mathlib.Core.List.{List, [], _∷_, map}
 use Prim.Native.Nat.{ℕ}
 use lib.IntN.{ℤ, pos, negsuc}
 use Rattle.calendar_rules.specs.Calendar.{is-leap}
-use Rattle.calendar_rules.specs.Answers.{PeriodAnswer, DateAnswer, no-period, period-answer, no-date, date-answer}
+use Rattle.calendar_rules.specs.Answers.{PeriodAnswer, DateAnswer, period-answer, date-answer}
 
 -- The Gregorian rule around the turns of centuries. No date of 2024 to 2099 tells.
 unfoldable pub Centuries : Type 0
@@ -88,10 +88,10 @@ no-dates =
     ∷ []
 
 unfoldable pub NoDates : Type 0
-NoDates = map (λ a. period-answer (a .year) (a .month) (a .day) (a .period)) no-dates ≡ map (λ (a : Asked). no-period) no-dates
+NoDates = map (λ a. period-answer (a .year) (a .month) (a .day) (a .period)) no-dates ≡ map (λ (a : Asked). record { number = 21; period = pos 0; weekday = pos 0 }) no-dates
 
 abbrev pub no-periods : List ℤ
 no-periods = negsuc 0 ∷ pos 1332432 ∷ pos 33333333 ∷ []
 
 unfoldable pub NoPeriods : Type 0
-NoPeriods = map date-answer no-periods ≡ map (λ (p : ℤ). no-date) no-periods
+NoPeriods = map date-answer no-periods ≡ map (λ (p : ℤ). record { number = 21; year = pos 0; month = pos 0; day = pos 0; period = pos 0; weekday = pos 0 }) no-periods

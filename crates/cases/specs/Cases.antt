@@ -4,7 +4,7 @@ use mathlib.Core.Bool.{true, false}
 use mathlib.Core.List.{List, [], _∷_, _++_}
 use Prim.Native.Nat.{ℕ, _+_}
 use lib.IntN.{ℤ, pos, negsuc}
-use lib.ListN.{getD, replicate}
+use lib.ListN.{getD, drop, replicate}
 use Rattle.offer_rules.specs.Numbers.{word, zeros}
 use Rattle.offer_rules.specs.Time.{next-period}
 use Rattle.offer_rules.specs.Offer.{Pair}
@@ -250,6 +250,9 @@ cases =
     -- "refusal 11 covers it": also of one that the gate would pass
     ∷ over-stands [] 7 (500 at 4000 ∷ []) (draws 11)
     ∷ row (plant ∷ []) (with-reason 7 stands) (draws 11)
+    -- Byte 12 alone "leaves the unused bytes": 13 is zero in both offers.
+    ∷ row (plant ∷ []) (with-byte 13 1 stands) (draws 4)
+    ∷ row (plant ∷ []) (with-byte 13 1 (variation 4 0 (300 at 4000 ∷ []))) (draws 4)
     -- "A first one always passes the gate", whatever its reason; so does an open one.
     ∷ row (plant ∷ (clock 56 ∷ [])) (with-reason 6 stands) passes
     ∷ row (plant ∷ (stands ∷ (clock 55 ∷ []))) (with-reason 6 (standing 4 (300 at 4500 ∷ []))) passes
@@ -295,8 +298,7 @@ cases =
     ∷ with-middle-blank (variation 4 0 (500 at 4000 ∷ (200 at 5000 ∷ [])) ∷ tripped) (blank 2) passes
     ∷ with-middle-blank (variation 4 0 (500 at 4000 ∷ (200 at 6000 ∷ [])) ∷ tripped) (blank 2) (draws 17)
     ∷ with-middle-blank (variation 4 0 (500 at 4000 ∷ (100 at 5000 ∷ [])) ∷ (notice 4 4 4 ∷ (clock 56 ∷ []))) (blank 4) passes
-    -- 4 "an unused byte not zero": byte 13 of every call, byte 7 of an outage
-    ∷ row (plant ∷ []) (with-byte 13 1 stands) (draws 4)
+    -- 4 "an unused byte not zero": byte 7 of an outage
     ∷ row (plant ∷ []) (with-byte 7 1 (outage 0 1)) (draws 4)
     -- 7 "not 0 ≤ A ≤ B ≤ 40,000,000"
     ∷ row [] (notice 3 5 4) (draws 7)
@@ -376,6 +378,14 @@ unfoldable pub Openings : Type 0
 Openings = (opening-of 16224 (pos 1) (pos 0) 10000000 ≡ 0) × (opening-of 16223 (pos 1) (pos 0) 10000000 ≡ 20) × (opening-of 16224 (pos 1) (pos 0) 10000001 ≡ 20)
     × (opening-of 16224 (pos 1) (pos 1) 10000000 ≡ 20) × (opening-of 16224 (pos 1) (negsuc 9999999) 0 ≡ 0) × (opening-of 16224 (pos 1) (negsuc 10000000) 0 ≡ 20)
     × (opening-of 16224 (pos 0) (pos 0) 0 ≡ 20) × (opening-of 16224 (pos 5) (pos 0) 0 ≡ 20)
+
+-- Words 1 to 23 of a look-up, "what its call carried": ramps and pairs of an energy offer, the proportion of a load's for reserve.
+abbrev words-shown : List ℤ → List (List ℕ) → List ℕ → List ℤ
+words-shown w before call = drop 1 (book-answer (book-run w before) call .words)
+
+unfoldable pub WordsShown : Type 0
+WordsShown = (words-shown damaged-maximum (ramping 7 stands ∷ []) (look-up 4) ≡ pos 0 ∷ (pos 7 ∷ (pos 0 ∷ (pair-words (500 at 4000 ∷ (200 at 5000 ∷ [])) ++ zeros 16))))
+    × (words-shown wide-book (of-all 2 reserve-marks ∷ (with-proportion 5 (standing-for 1 4 []) ∷ [])) (look-up-for 1 4) ≡ pos 5 ∷ zeros 22)
 
 -- Words 2 and 3 of a look-up of period 4: as they were filed, and "quotient and remainder rounded toward zero" of −12,345.
 abbrev ramps-shown : List ℤ → List (List ℕ) → List ℤ
