@@ -1,5 +1,6 @@
 /* One call of a random list, compared at number, 24 words and sum, at the book's words and at the record test. */
 #include "compared_call.h"
+#include "listed_words.h"
 #include "../../bench/plain_book.h"
 
 #include <inttypes.h>
@@ -7,7 +8,7 @@
 #include <string.h>
 
 long passed, failed;
-long drawn[20], accepted[10], inside_gate[7], past_another_period;
+long drawn[20], damaged_calls, pages_written, accepted[10], inside_gate[7], past_another_period;
 long taken_back[2][2], taken_back_inside[7], not_taken_back, taken_back_damaged;
 struct revisions revisions;
 struct blanks blanks;
@@ -43,8 +44,8 @@ bool check(struct list *l, bool ok, const char *what)
     return false;
 }
 
-static void check_answers(struct list *l, const char *who, const struct bilzhaan_answer *a, const char *model,
-                          const struct bilzhaan_answer *expected)
+void check_answers(struct list *l, const char *who, const struct bilzhaan_answer *a, const char *model,
+                   const struct bilzhaan_answer *expected)
 {
     bool same = a->number == expected->number && memcmp(a->words, expected->words, sizeof a->words) == 0
         && a->sum == expected->sum;
@@ -60,6 +61,70 @@ static bool is_zero(const struct bilzhaan_answer *a)
     return memcmp(a->words, zeros, sizeof zeros) == 0 && a->sum == 0;
 }
 
+/* ---- what is lent ---- */
+
+void room_for_lists(struct list *l)
+{
+    struct watched *books[] = {&l->by_library, &l->by_plain, &l->by_list, &l->by_shorter};
+    for (int i = 0; i < 4; i++)
+        watched_room(books[i], BILZHAAN_BOOK_WORDS(BILZHAAN_FACILITIES_MOST, BILZHAAN_SERVICES_ALL) + PAST_MOST);
+    l->records = room_for_copies(LONGEST_RECORD);
+    l->few = room_for_copies(FEW_WORDS * sizeof l->library[0]);
+}
+
+/* One call of the library's, whichever: what it is lent, and its number or its answer. */
+struct lent {
+    struct list *list;
+    int32_t *words;
+    size_t count;
+    const uint8_t *bytes;
+    int32_t facilities, services;
+    uint32_t number;
+    struct bilzhaan_answer answer;
+};
+
+static void open_lent(void *with)
+{
+    struct lent *lent = with;
+    lent->number = bilzhaan_open(lent->words, lent->count, lent->list->facilities, lent->list->services,
+                                 (const int32_t *)(const void *)lent->bytes);
+}
+
+static void call_lent(void *with)
+{
+    struct lent *lent = with;
+    lent->answer = bilzhaan_call(lent->words, lent->count, lent->bytes, lent->list->length);
+}
+
+static void test_lent(void *with)
+{
+    struct lent *lent = with;
+    lent->number = bilzhaan_record_test(lent->bytes, lent->list->length, lent->facilities, lent->services);
+}
+
+void lend_bytes(struct list *l, const uint8_t *bytes, size_t length)
+{
+    memcpy(l->bytes, bytes, length);
+    l->length = length;
+    l->record = lend_copy(&l->records, bytes, length);
+}
+
+uint32_t library_opening(struct list *l, int32_t *words, size_t count)
+{
+    struct lent lent = {.list = l, .words = words, .count = count, .bytes = lend_copy(&l->records, l->limits, sizeof l->limits)};
+    return touches_lent_alone(open_lent, &lent) ? lent.number : TOUCHED_MORE;
+}
+
+struct bilzhaan_answer library_call(struct list *l, int32_t *words, size_t count)
+{
+    struct lent lent = {.list = l, .words = words, .count = count, .bytes = l->record};
+    if (count <= FEW_WORDS)
+        lent.words = (int32_t *)(void *)lend_copy(&l->few, words, count * sizeof words[0]);
+    if (!check(l, touches_lent_alone(call_lent, &lent), "memory that was not lent was touched"))
+        lent.answer.number = TOUCHED_MORE;
+    return lent.answer;
+}
+
 /* ---- the record test ---- */
 
 static void compare_record_test(struct list *l, struct random *r)
@@ -69,8 +134,8 @@ static void compare_record_test(struct list *l, struct random *r)
     int32_t s = one_in(r, 3) ? sizes[random_bits(r) % 12] : l->services;
     bool good_sizes = f >= 1 && f <= 64 && (s == 1 || s == 5);
     uint32_t expected = good_sizes ? (uint32_t)list_machine_record_number(l->bytes, l->length, f, s) : 20;
-    uint32_t got = bilzhaan_record_test(l->bytes, l->length, f, s);
-    check(l, got == expected, "the record test");
+    struct lent lent = {.list = l, .bytes = l->record, .facilities = f, .services = s};
+    check(l, touches_lent_alone(test_lent, &lent) && lent.number == expected, "the record test");
     check(l, plain_record_test(l->bytes, l->length, f, s) == expected, "the plain book's record test");
 }
 
@@ -87,48 +152,48 @@ static int64_t period_of(const uint8_t *b)
     return (uint32_t)word_at(b, BILZHAAN_AT_PERIOD);
 }
 
-bool same_words(const struct list *l)
-{
-    return memcmp(l->library - GUARD, l->plain - GUARD, (l->needed + 2 * GUARD) * sizeof l->library[0]) == 0;
-}
-
-bool guards_stand(const struct list *l)
-{
-    for (int i = 1; i <= GUARD; i++)
-        if (l->library[-i] != CANARY || l->library[l->needed + (size_t)i - 1] != CANARY)
-            return false;
-    return true;
-}
-
 bool usable_sizes(const struct list *l)
 {
     int32_t f = l->plain[2], s = l->plain[3];
     return f >= 1 && f <= 64 && (s == 1 || s == 5) && BILZHAAN_BOOK_WORDS(f, s) <= l->needed;
 }
 
-/* The library's words after a call, against the plain book's, which has not been called yet and stands for before. */
-static bool only_that_cell(const struct list *l)
+/* The words that the call may change if it is accepted: those that its fields are kept in, and for an offer its cell's. */
+static void carried_words(const struct list *l, size_t *from, size_t *end)
 {
-    int32_t f = l->plain[2], s = l->plain[3]; /* a damaged head may have smaller sizes than the opening's */
     const uint8_t *b = l->bytes;
-    if (!usable_sizes(l))
-        return false;
-    size_t cell = place_of_cell(f, s, b[BILZHAAN_AT_FACILITY], b[BILZHAAN_AT_SERVICE],
-                                b[BILZHAAN_AT_CALL] == BILZHAAN_CALL_VARIATION, period_of(b) % 336);
-    return cell + 24 <= l->needed
-        && memcmp(l->library - GUARD, l->plain - GUARD, (cell + GUARD) * sizeof l->plain[0]) == 0
-        && memcmp(l->library + cell + 24, l->plain + cell + 24, (l->needed + GUARD - cell - 24) * sizeof l->plain[0]) == 0;
+    int which = b[BILZHAAN_AT_CALL];
+    size_t block = 64 + 32 * (size_t)b[BILZHAAN_AT_FACILITY], count = 0;
+    *from = 0;
+    switch (which) {
+    case BILZHAAN_CALL_CLOCK: *from = 4, count = 1; break;
+    case BILZHAAN_CALL_CAPABILITY: *from = block, count = 17; break;
+    case BILZHAAN_CALL_STANDING:
+    case BILZHAAN_CALL_VARIATION: /* a damaged head may have smaller sizes than the opening's */
+        *from = place_of_cell(l->plain[2], l->plain[3], b[BILZHAAN_AT_FACILITY], b[BILZHAAN_AT_SERVICE],
+                              which == BILZHAAN_CALL_VARIATION, period_of(b) % 336);
+        count = 24;
+        break;
+    case BILZHAAN_CALL_OUTAGE: *from = block + 17, count = 2; break;
+    case BILZHAAN_CALL_NOTICE: *from = 5 + 2 * (size_t)(b[BILZHAAN_AT_REASON] - 3), count = 2; break;
+    case BILZHAAN_CALL_WITHDRAWAL: *from = 9, count = 2; break;
+    }
+    *end = *from + count;
 }
 
-static void compare_words_after(struct list *l, const struct bilzhaan_answer *a)
+/* After a call on each: as no page but the noted ones was written, all words are compared. */
+static void compare_words(struct list *l, uint32_t number)
 {
-    int which = l->length == BILZHAAN_RECORD_BYTES ? l->bytes[BILZHAAN_AT_CALL] : 0;
-    if (a->number != 0)
-        check(l, same_words(l), "a refused call changed the words");
-    else if (which >= BILZHAAN_CALL_LOOK_UP)
-        check(l, same_words(l), "a look-up or a total changed the words");
-    else if (which == BILZHAAN_CALL_STANDING || which == BILZHAAN_CALL_VARIATION)
-        check(l, only_that_cell(l), "an accepted offer changed other words than its cell's");
+    size_t from = 0, end = 0;
+    if (number == 0)
+        carried_words(l, &from, &end);
+    pages_written += (long)l->by_library.noted;
+    check(l, wrote_only(&l->by_library, from, end), number != 0 ? "a refused call wrote"
+                                                    : from == end ? "a look-up or a total wrote"
+                                                                  : "an accepted call wrote words that it doesn't carry");
+    check(l, same_noted(&l->by_library, &l->by_plain), "words differ from the plain book's");
+    if (!l->is_damaged)
+        check(l, same_noted(&l->by_library, &l->by_list), "words differ from those of the list machine's calls");
 }
 
 /* ---- one call ---- */
@@ -184,6 +249,7 @@ static void count_take_back(const struct list *l, const struct bilzhaan_answer *
 static void count_call(const struct list *l, const struct bilzhaan_answer *a, int64_t now)
 {
     drawn[a->number]++;
+    damaged_calls += l->is_damaged;
     if (a->number != 0 || l->is_damaged)
         return;
     const uint8_t *b = l->bytes;
@@ -467,13 +533,30 @@ static void count_link(const struct list *l, const struct bilzhaan_answer *a, in
         links_inside_gate[reason]++;
 }
 
+static void keep_accepted(struct list *l, const struct bilzhaan_answer *a)
+{
+    struct accepted_call *kept = &l->accepted[l->accepted_count++];
+    kept->call = l->call;
+    memcpy(kept->record.bytes, l->bytes, sizeof kept->record.bytes);
+    kept->answer = *a;
+}
+
+/* The list machine's answer, and the words that its accepted calls make; the plain book's on a damaged book. */
+static struct bilzhaan_answer expected_answer(struct list *l, const struct bilzhaan_answer *plain)
+{
+    if (l->is_damaged)
+        return *plain;
+    struct bilzhaan_answer expected = list_machine_call(&l->machine, l->bytes, l->length);
+    check_answers(l, "plain book", plain, "list machine", &expected);
+    if (expected.number == 0)
+        listed_call(&l->machine, l->by_list.words, l->bytes);
+    return expected;
+}
+
 void compared_call(struct list *l, struct random *r, const uint8_t *bytes, size_t length)
 {
-    memcpy(l->bytes, bytes, length);
-    l->length = length;
+    lend_bytes(l, bytes, length);
     l->call++;
-    size_t every = l->needed / WORDS_COMPARED_EACH_CALL + 1;
-    bool compare_words = random_bits(r) % every == 0;
     int64_t now = l->plain[4];
     bool is_take_back = takes_back(l);
     struct revision revision = revision_of(l, now);
@@ -482,27 +565,22 @@ void compared_call(struct list *l, struct random *r, const uint8_t *bytes, size_
     int32_t before[24] = {0};
     if (varied)
         memcpy(before, varied, sizeof before);
-    if (compare_words && every > 1)
-        check(l, same_words(l), "words differ after an earlier call of the list");
+    forget_writes(&l->by_library);
+    forget_writes(&l->by_plain);
+    forget_writes(&l->by_list);
 
-    struct bilzhaan_answer a = bilzhaan_call(l->library, l->lent, l->bytes, l->length);
-    if (compare_words)
-        compare_words_after(l, &a);
     struct bilzhaan_answer plain = plain_call(l->plain, l->lent, l->bytes, l->length);
-    if (!l->is_damaged) {
-        struct bilzhaan_answer expected = list_machine_call(&l->machine, l->bytes, l->length);
-        check_answers(l, "library", &a, "list machine", &expected);
-        check_answers(l, "plain book", &plain, "list machine", &expected);
-    } else {
-        check_answers(l, "library", &a, "plain book", &plain);
-    }
+    struct bilzhaan_answer expected = expected_answer(l, &plain);
+    struct bilzhaan_answer a = library_call(l, l->library, l->lent);
+    check_answers(l, "library", &a, l->is_damaged ? "plain book" : "list machine", &expected);
     if (a.number != 0)
         check(l, is_zero(&a), "a refusal without zeros");
-    if (compare_words)
-        check(l, same_words(l), "words differ from the plain book's");
+    compare_words(l, expected.number);
     compare_record_test(l, r);
     if (l->is_wrong)
         return;
+    if (a.number == 0 && !l->is_damaged)
+        keep_accepted(l, &a);
     count_call(l, &a, now);
     count_link(l, &a, now);
     count_minutes(l, &a, now);
