@@ -49,7 +49,10 @@ void check_answers(struct list *l, const char *who, const struct bilzhaan_answer
 {
     bool same = a->number == expected->number && memcmp(a->words, expected->words, sizeof a->words) == 0
         && a->sum == expected->sum;
-    if (!check(l, same, "the answer") && failed <= FAILURES_SHOWN) {
+    char what[100] = "";
+    if (!same)
+        snprintf(what, sizeof what, "the answer of the %s, against that of the %s", who, model);
+    if (!check(l, same, what) && failed <= FAILURES_SHOWN) {
         print_answer(who, a);
         print_answer(model, expected);
     }

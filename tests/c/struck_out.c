@@ -33,7 +33,7 @@ static void call_kept(struct list *l, const struct accepted_call *kept, int f)
         check(l, a.number == 0, "a call of the shorter list was refused");
     } else if (kept->record.bytes[BILZHAAN_AT_FACILITY] == f) { /* what others offer is struck out */
         struck.inside++;
-        check_answers(l, "shorter list", &a, "whole list", &kept->answer);
+        check_answers(l, "look-up in the shorter list", &a, "one in the whole list", &kept->answer);
     }
 }
 
@@ -52,34 +52,58 @@ static void call_shorter(struct list *l, int f)
 
 /* ---- look-ups after both ---- */
 
-struct asked {
-    struct list *list;
-    int facility;
-};
+enum { ASKED_MOST = (BILZHAAN_SERVICES_ALL + 1) * 400 };
 
-static void look_up_after(struct list *l, int f, int s, int64_t period)
-{
-    struct record record = look_up_of(f, s, (int32_t)period);
-    struct bilzhaan_answer whole = bilzhaan_call(l->library, l->lent, record.bytes, sizeof record.bytes);
-    struct bilzhaan_answer a = bilzhaan_call(l->by_shorter.words, l->needed, record.bytes, sizeof record.bytes);
-    memcpy(l->bytes, record.bytes, l->length = sizeof record.bytes);
-    check_answers(l, "shorter list", &a, "whole list", &whole);
-    struck.after[whole.number < 20 ? whole.number : 0]++;
-    struck.of_links += whole.number == 0 && l->plain[64 + 32 * f] == BILZHAAN_LINK;
-}
+static struct record asked[ASKED_MOST];
+static size_t asked_count;
+
+/* A run of them: the words to ask and the answers. */
+struct answered {
+    int32_t *words;
+    size_t lent;
+    struct bilzhaan_answer answers[ASKED_MOST];
+};
+static struct answered after_whole, after_shorter;
 
 /* Every period that 10 lets through, and others at both ends; every service, and the first that the book doesn't have. */
-static void look_up_all(void *with)
+static void choose_look_ups(const struct list *l, int f)
 {
-    const struct asked *asked = with;
-    struct list *l = asked->list;
     static const int32_t far[] = {INT32_MIN, -336, -1, 0, 1, 335, 336, 33333334, INT32_MAX - 1, INT32_MAX};
-    int64_t now = l->plain[4], horizon = 48 * (now / 1440 + 7);
-    for (int s = 0; s <= l->services && !l->is_wrong; s++) {
-        for (int64_t period = now / 30 - 3; period < horizon + 3 && !l->is_wrong; period++)
-            look_up_after(l, asked->facility, s, period);
-        for (size_t i = 0; i < sizeof far / sizeof far[0] && !l->is_wrong; i++)
-            look_up_after(l, asked->facility, s, far[i]);
+    int32_t now = l->plain[4], horizon = 48 * (now / 1440 + 7);
+    asked_count = 0;
+    for (int s = 0; s <= l->services; s++) {
+        for (int32_t period = now / 30 - 3; period < horizon + 3; period++)
+            asked[asked_count++] = look_up_of(f, s, period);
+        for (size_t i = 0; i < sizeof far / sizeof far[0]; i++)
+            asked[asked_count++] = look_up_of(f, s, far[i]);
+    }
+}
+
+static void answer_all(void *with)
+{
+    struct answered *after = with;
+    for (size_t i = 0; i < asked_count; i++)
+        after->answers[i] = bilzhaan_call(after->words, after->lent, asked[i].bytes, sizeof asked[i].bytes);
+}
+
+static void look_up_after(struct list *l, struct watched *book, size_t lent, struct answered *after)
+{
+    after->words = book->words;
+    after->lent = lent;
+    check(l, touches_lent_alone(answer_all, after), "look-ups after a list touched memory that was not lent");
+    check(l, wrote_only(book, 0, 0), "look-ups after a list wrote");
+}
+
+static void compare_look_ups(struct list *l, int f)
+{
+    bool is_link = l->plain[64 + 32 * f] == BILZHAAN_LINK;
+    for (size_t i = 0; i < asked_count && !l->is_wrong; i++) {
+        const struct bilzhaan_answer *whole = &after_whole.answers[i];
+        l->length = sizeof asked[i].bytes;
+        memcpy(l->bytes, asked[i].bytes, l->length);
+        check_answers(l, "look-up after the shorter list", &after_shorter.answers[i], "one after the whole list", whole);
+        struck.after[whole->number < 20 ? whole->number : 0]++;
+        struck.of_links += whole->number == 0 && is_link;
     }
 }
 
@@ -96,14 +120,15 @@ static bool same_of_facility(const struct list *l, int f)
 
 void strike_out(struct list *l, int f)
 {
-    struct asked asked = {l, f};
+    choose_look_ups(l, f);
+    forget_writes(&l->by_library);
+    look_up_after(l, &l->by_library, l->lent, &after_whole);
     open_shorter(l);
     call_shorter(l, f);
-    forget_writes(&l->by_library);
-    watch_writes(&l->by_shorter);
     if (l->is_wrong)
         return;
-    check(l, touches_lent_alone(look_up_all, &asked), "memory that was not lent was touched after the shorter list");
-    check(l, wrote_only(&l->by_library, 0, 0) && wrote_only(&l->by_shorter, 0, 0), "a look-up wrote after the shorter list");
+    watch_writes(&l->by_shorter);
+    look_up_after(l, &l->by_shorter, l->needed, &after_shorter);
+    compare_look_ups(l, f);
     check(l, same_of_facility(l, f), "the facility's words differ after the shorter list");
 }
