@@ -4,7 +4,8 @@ set -euo pipefail
 
 [ $# -eq 2 ] || { echo "usage: tests/differential_build.sh LIBRARY.a PROGRAM" >&2; exit 2; }
 root=$(dirname "$0")/..
-sources=(differential_test random_lists struck_out damaged_part compared_call watched_words lent_memory random_calls list_machine listed_words)
+sources=(differential_test random_lists struck_out damaged_part compared_call counted_calls watched_words
+    lent_memory random_calls list_machine listed_words)
 
 mkdir -p "$(dirname "$2")"
 gcc -std=c11 -Wall -Wextra -Werror -pedantic -O2 -I"$root/include" $(printf "$root/tests/c/%s.c " "${sources[@]}") "$root/bench/plain_book.c" "$1" -o "$2"

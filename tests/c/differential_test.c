@@ -2,6 +2,7 @@
  * word of the book; then striking out, and damaged books against the plain book. Arguments: seconds (20), seed (1); or --every-size,
  * calls, seed (1): lists of every F and S in turn. A third: that list alone. Ends with 'N passed, M failed'. */
 #define _DEFAULT_SOURCE
+#include "counted_calls.h"
 #include "random_lists.h"
 #include "struck_out.h"
 
@@ -310,6 +311,7 @@ int main(int argc, char **argv)
     uint64_t seed = argc > 2 ? strtoull(argv[2], NULL, 10) : 1;
     if (argc > 4 || (is_every_size && argc < 2))
         return usage();
+    setvbuf(stdout, NULL, _IOLBF, 0); /* a long run shows a failure at once */
     printf("seed %" PRIu64 ", %.0f %s\n", seed, most, is_every_size ? "calls" : "seconds");
     room_for_lists(&list);
     if (argc > 3)
