@@ -33,14 +33,24 @@ uint8_t *lent_from_the_start(size_t bytes)
     return pages_between_guards(bytes, &room);
 }
 
-void allow_writes(const void *lent, size_t bytes, bool allowed)
+static void protect(const void *lent, size_t bytes, int protection)
 {
     size_t page = (size_t)sysconf(_SC_PAGESIZE);
     uintptr_t start = (uintptr_t)lent / page * page;
-    if (mprotect((void *)start, (uintptr_t)lent + bytes - start, allowed ? PROT_READ | PROT_WRITE : PROT_READ) != 0) {
+    if (mprotect((void *)start, (uintptr_t)lent + bytes - start, protection) != 0) {
         perror("mprotect");
         exit(2);
     }
+}
+
+void allow_writes(const void *lent, size_t bytes, bool allowed)
+{
+    protect(lent, bytes, allowed ? PROT_READ | PROT_WRITE : PROT_READ);
+}
+
+void forbid_touches(const void *lent, size_t bytes)
+{
+    protect(lent, bytes, PROT_NONE);
 }
 
 struct copies room_for_copies(size_t most)

@@ -13,6 +13,9 @@ uint8_t *lent_from_the_start(size_t bytes);
 /* Makes the pages of lent bytes read-only, or writable again. */
 void allow_writes(const void *lent, size_t bytes, bool allowed);
 
+/* Their pages can't be touched until one of the above. */
+void forbid_touches(const void *lent, size_t bytes);
+
 /* Room for copies of up to `most` bytes. Each is read-only and ends at the page that can't be touched, so that of a short copy no
  * byte more can be read; it stands until the next. */
 struct copies {

@@ -87,7 +87,8 @@ void watched_room(struct watched *w, size_t words)
     size_t bytes = words * sizeof w->words[0];
     memset(w, 0, sizeof *w);
     w->room_bytes = (bytes + PAGE_BYTES - 1) / PAGE_BYTES * PAGE_BYTES;
-    w->room = lent_from_the_start(w->room_bytes);
+    w->room = w->pages = lent_from_the_start(w->room_bytes);
+    w->page_count = w->room_bytes / PAGE_BYTES;
     if (room_count == ROOMS_MOST)
         give_up("too many rooms\n");
     rooms[room_count++] = w;
@@ -97,6 +98,7 @@ void watched_room(struct watched *w, size_t words)
 void place_words(struct watched *w, size_t count, bool is_to_the_end, uint8_t fill)
 {
     size_t bytes = count * sizeof w->words[0], used = (bytes + PAGE_BYTES - 1) / PAGE_BYTES * PAGE_BYTES;
+    forbid_touches(w->pages, w->page_count * PAGE_BYTES);
     w->pages = is_to_the_end ? w->room + w->room_bytes - used : w->room;
     w->page_count = used / PAGE_BYTES;
     w->words = (int32_t *)(void *)(is_to_the_end ? w->room + w->room_bytes - bytes : w->room);

@@ -21,7 +21,8 @@ struct watched {
 /* Room for this many words, kept until the test ends. */
 void watched_room(struct watched *w, size_t words);
 
-/* Puts `count` words at the start or the end of the room. Every byte of their pages is `fill`, and may be written unnoted. */
+/* Puts `count` words at the start or the end of the room. Every byte of their pages is `fill`, and may be written unnoted; the
+ * room's other pages can't be touched. */
 void place_words(struct watched *w, size_t count, bool is_to_the_end, uint8_t fill);
 
 /* From here on a write is noted. */
