@@ -8,4 +8,5 @@ sources=(differential_test random_lists struck_out damaged_part compared_call co
     lent_memory random_calls list_machine listed_words)
 
 mkdir -p "$(dirname "$2")"
-gcc -std=c11 -Wall -Wextra -Werror -pedantic -O2 -I"$root/include" $(printf "$root/tests/c/%s.c " "${sources[@]}") "$root/bench/plain_book.c" "$1" -o "$2"
+sources=("${sources[@]/#/"$root/tests/c/"}")
+gcc -std=c11 -Wall -Wextra -Werror -pedantic -O2 -I"$root/include" "${sources[@]/%/.c}" "$root/bench/plain_book.c" "$1" -o "$2"

@@ -302,25 +302,37 @@ static int usage(void)
     return 2;
 }
 
+/* The argument as a whole number from 1 on, else 0: "10,000,000" is none, and not 10. */
+static long counting_number(const char *argument)
+{
+    char *end;
+    long n = strtol(argument, &end, 10);
+    return *end == '\0' && n > 0 ? n : 0;
+}
+
 int main(int argc, char **argv)
 {
     bool is_every_size = argc > 1 && strcmp(argv[1], "--every-size") == 0;
     argc -= is_every_size;
     argv += is_every_size;
-    double most = argc > 1 ? atof(argv[1]) : 20;
+    double seconds = argc > 1 ? atof(argv[1]) : 20;
+    long calls = is_every_size && argc > 1 ? counting_number(argv[1]) : 0, alone = argc > 3 ? counting_number(argv[3]) : 0;
     uint64_t seed = argc > 2 ? strtoull(argv[2], NULL, 10) : 1;
-    if (argc > 4 || (is_every_size && argc < 2))
+    if (argc > 4 || (is_every_size && calls == 0) || (argc > 3 && alone == 0))
         return usage();
     setvbuf(stdout, NULL, _IOLBF, 0); /* a long run shows a failure at once */
-    printf("seed %" PRIu64 ", %.0f %s\n", seed, most, is_every_size ? "calls" : "seconds");
     room_for_lists(&list);
-    if (argc > 3)
-        one_list(seed, atol(argv[3]), is_every_size);
-    else if (is_every_size)
-        for_calls((long)most, seed);
-    else
-        for_seconds(most, seed);
-    if (argc <= 3)
+    if (alone > 0) {
+        printf("seed %" PRIu64 ", list %ld alone\n", seed, alone);
+        one_list(seed, alone, is_every_size);
+    } else if (is_every_size) {
+        printf("seed %" PRIu64 ", %ld calls\n", seed, calls);
+        for_calls(calls, seed);
+    } else {
+        printf("seed %" PRIu64 ", %g seconds\n", seed, seconds);
+        for_seconds(seconds, seed);
+    }
+    if (alone == 0)
         print_counts(is_every_size);
     printf("%ld passed, %ld failed\n", passed, failed);
     return failed != 0;
