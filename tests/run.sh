@@ -56,8 +56,7 @@ run() {
 }
 
 # Random lists run beside the tests that follow, and are counted last.
-$c11 tests/c/differential_test.c tests/c/compared_call.c tests/c/random_calls.c tests/c/list_machine.c \
-    bench/plain_book.c "$library" -o "$out/differential_test"
+tests/differential_build.sh "$library" "$out/differential_test"
 "$out/differential_test" "$seconds" "$seed" >"$out/random.txt" &
 random=$!
 trap 'kill "$random" 2>/dev/null || :' EXIT
@@ -125,7 +124,7 @@ run "$out/record_header_test" samples/worked-run.records
 check "the numbers' texts are those of docs/REFUSALS.md" texts_of_the_page
 run tests/installed_test.sh "$library"
 
-$c11 -pthread tests/c/library_*.c tests/c/check.c "$library" -o "$out/library_test"
+$c11 -pthread tests/c/library_*.c tests/c/check.c tests/c/lent_memory.c "$library" -o "$out/library_test"
 $c11 tests/c/vectors_test.c tests/c/list_machine.c bench/plain_book.c "$library" -o "$out/vectors_test"
 $c11 tests/c/dates_test.c tests/c/counted_calendar.c bench/plain_calendar.c "$library" -o "$out/dates_test"
 $c11 tests/c/script*.c tests/c/listed_words.c tests/c/list_machine.c tests/c/counted_calendar.c bench/plain_*.c "$library" \

@@ -1,4 +1,4 @@
-/* Counted checks, lent memory and books for the tests of the library. */
+/* Counted checks, stray touches and books for the tests of the library. */
 #define _DEFAULT_SOURCE
 #include "check.h"
 
@@ -7,7 +7,6 @@
 #include <stdio.h>
 #include <stdlib.h>
 #include <string.h>
-#include <sys/mman.h>
 #include <unistd.h>
 
 long passed, failed;
@@ -31,7 +30,7 @@ void equal_at(int64_t got, int64_t expected, const char *what, const char *file,
     }
 }
 
-/* ---- lent memory ---- */
+/* ---- stray touches ---- */
 
 static void stray_touch(int signal_number)
 {
@@ -46,41 +45,6 @@ void name_stray_touches(void)
 {
     signal(SIGSEGV, stray_touch);
     signal(SIGBUS, stray_touch);
-}
-
-static uint8_t *pages_between_guards(size_t bytes, size_t *room)
-{
-    size_t page = (size_t)sysconf(_SC_PAGESIZE);
-    *room = (bytes + page - 1) / page * page;
-    uint8_t *at = mmap(NULL, *room + 2 * page, PROT_READ | PROT_WRITE, MAP_PRIVATE | MAP_ANONYMOUS, -1, 0);
-    if (at == MAP_FAILED || mprotect(at, page, PROT_NONE) != 0 || mprotect(at + page + *room, page, PROT_NONE) != 0) {
-        perror("mmap");
-        exit(2);
-    }
-    return at + page;
-}
-
-uint8_t *lent_to_the_end(size_t bytes)
-{
-    size_t room;
-    uint8_t *at = pages_between_guards(bytes, &room);
-    return at + room - bytes;
-}
-
-uint8_t *lent_from_the_start(size_t bytes)
-{
-    size_t room;
-    return pages_between_guards(bytes, &room);
-}
-
-void allow_writes(const void *lent, size_t bytes, bool allowed)
-{
-    size_t page = (size_t)sysconf(_SC_PAGESIZE);
-    uintptr_t start = (uintptr_t)lent / page * page;
-    if (mprotect((void *)start, (uintptr_t)lent + bytes - start, allowed ? PROT_READ | PROT_WRITE : PROT_READ) != 0) {
-        perror("mprotect");
-        exit(2);
-    }
 }
 
 /* ---- books ---- */

@@ -1,8 +1,9 @@
-/* Counted checks, and memory that ends or starts at a page that can't be touched, for the tests of the library.
+/* Counted checks and books for the tests of the library, whose words end at a page that can't be touched.
  * A call that reads or writes past what it was lent stops the test with a message. */
 #ifndef BILZHAAN_TESTS_CHECK_H
 #define BILZHAAN_TESTS_CHECK_H
 
+#include "lent_memory.h"
 #include "records.h"
 
 #include <stdbool.h>
@@ -16,13 +17,8 @@ void equal_at(int64_t got, int64_t expected, const char *what, const char *file,
 #define CHECK(condition) check_at((condition), #condition, __FILE__, __LINE__)
 #define EQUAL(got, expected) equal_at((int64_t)(got), (int64_t)(expected), #got, __FILE__, __LINE__)
 
-/* Touching either neighbour of the lent bytes ends the test. Kept until the test ends. */
-uint8_t *lent_to_the_end(size_t bytes);
-uint8_t *lent_from_the_start(size_t bytes);
+/* A touch of memory that isn't lent, or a write to what is read-only, ends the test. */
 void name_stray_touches(void);
-
-/* Makes the pages of lent bytes read-only, or writable again. */
-void allow_writes(const void *lent, size_t bytes, bool allowed);
 
 /* A book of its own with generous limits, opened. */
 struct book {

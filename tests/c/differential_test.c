@@ -1,296 +1,42 @@
-/* Random lists of calls: the library's answers against the list machine's, call by call at number, 24 words and sum;
- * then damaged books against the plain book. Arguments: seconds (20), seed (1). Ends with 'N passed, M failed'. */
+/* Random lists of calls: the library's answers against the list machine's, call by call at number, 24 words and sum, and every
+ * word of the book; then striking out, and damaged books against the plain book. Arguments: seconds (20), seed (1); or --every-size,
+ * calls, seed (1): lists of every F and S in turn. A third: that list alone. Ends with 'N passed, M failed'. */
 #define _DEFAULT_SOURCE
-#include "compared_call.h"
-#include "../../bench/plain_book.h"
+#include "counted_calls.h"
+#include "random_lists.h"
+#include "struck_out.h"
 
 #include <inttypes.h>
+#include <limits.h>
 #include <stdio.h>
 #include <stdlib.h>
 #include <string.h>
 #include <time.h>
 
-static long lists, damaged_lists;
+static long lists, calls_made;
 
-/* ---- lists ---- */
+/* ---- sizes ---- */
 
-static void some_limits(struct random *r, int32_t limits[6])
+/* By F and by S, 1 (0) or 5 (1). */
+static long calls_of_size[BILZHAAN_FACILITIES_MOST + 1][2];
+
+struct size {
+    int32_t facilities, services;
+};
+
+/* Mostly small, as a list's time goes by its book's. */
+static struct size some_size(struct random *r)
 {
-    for (int i = 0; i < 6; i++) {
-        int64_t most = one_in(r, 4) ? 10000000 : one_in(r, 6) ? between(r, 0, 12) : 450000;
-        limits[i] = (int32_t)(i == 0 ? -most : most);
-    }
-}
-
-static void open_list(struct list *l, struct random *r)
-{
-    int32_t limits[6];
-    some_limits(r, limits);
-    int32_t fill = (int32_t)(uint32_t)random_bits(r);
-    for (size_t i = 0; i < l->needed + 2 * GUARD; i++)
-        l->library[(ptrdiff_t)i - GUARD] = i < GUARD || i >= l->needed + GUARD ? CANARY : fill;
-    memcpy(l->plain - GUARD, l->library - GUARD, (l->needed + 2 * GUARD) * sizeof l->plain[0]);
-    check(l, bilzhaan_open(l->library, l->needed - 1, l->facilities, l->services, limits) == 20
-              && memcmp(l->library, l->plain, l->needed * sizeof l->plain[0]) == 0,
-          "an opening with too few words");
-    check(l, bilzhaan_open(l->library, l->lent, l->facilities, l->services, limits) == 0
-              && plain_open(l->plain, l->lent, l->facilities, l->services, limits) == 0, "the opening");
-    check(l, same_words(l), "words after the opening");
-    list_machine_open(&l->machine, l->facilities, l->services, limits);
-}
-
-/* Capabilities for the scene's facilities and a first minute; some lists go without. */
-static void prologue(struct list *l, struct random *r, struct scene *scene)
-{
-    if (one_in(r, 12))
-        return;
-    int64_t minute = one_in(r, 3) ? 0 : one_in(r, 6) ? 1000000000 - between(r, 0, 12000) : between(r, 0, 30000);
-    struct record clock = clock_at((int32_t)minute);
-    for (int i = 0; i <= SCENE_FACILITIES; i++) {
-        int32_t w[17] = {1, 1300, 800, 300, 300, 300, 200, 50, 40, 500, 600, 700, 1, 1, 1, 1, 1};
-        w[0] = random_kind(r, l->services);
-        clear_marks(w);
-        struct record record = i < SCENE_FACILITIES ? capability_of(scene->active[i], w) : clock;
-        compared_call(l, r, record.bytes, sizeof record.bytes);
-    }
-}
-
-static void set_both(struct list *l, size_t place, int32_t value)
-{
-    l->library[place] = l->plain[place] = value;
-}
-
-static int32_t odd_value(struct random *r)
-{
-    static const int32_t values[] = {0, 1, 2, 3, 5, 7, 64, -1, -2, 100, 99999, 1000000000, 1000000001, INT32_MAX, INT32_MIN};
-    return one_in(r, 3) ? (int32_t)(uint32_t)random_bits(r) : values[random_bits(r) % 15];
-}
-
-/* A cell's word 2 that no ramps make, or that the largest do. */
-static int32_t odd_ramps(struct random *r)
-{
-    static const int32_t values[] = {-12345, -1, -9999, -10000, -10001, 9999, 10000, 99999999, 100000000};
-    return one_in(r, 3) ? odd_value(r) : values[random_bits(r) % 9];
-}
-
-/* A minute near the clock, at an end of 32 bits, or any. */
-static int32_t odd_minute(struct random *r, int64_t now)
-{
-    switch (random_bits(r) % 6) {
-    case 0: return odd_value(r);
-    case 1:
-    case 2: return one_in(r, 4) ? INT32_MAX : INT32_MIN; /* the least has an age past 32 bits */
-    default: return (int32_t)(now + between(r, -7, 7));
-    }
-}
-
-/* Changes one word of both books, but for the first four. */
-static void damage_word(struct list *l, struct random *r, const struct scene *scene)
-{
-    int i = (int)(random_bits(r) % SCENE_KEYS);
-    int f = scene->keys[i].facility % l->facilities, s = scene->keys[i].service % l->services;
-    int64_t period = scene->keys[i].period < 0 ? 0 : scene->keys[i].period;
-    size_t cell = place_of_cell(l->facilities, l->services, f, s, (int)between(r, 0, 1), period % 336);
-    switch (random_bits(r) % 15) {
-    case 0: set_both(l, (size_t)between(r, 5, 16), odd_value(r)); break;
-    case 1: set_both(l, 64 + 32 * (size_t)f + (size_t)between(r, 0, 18), odd_value(r)); break;
-    case 2: set_both(l, (size_t)between(r, 5, (int64_t)l->needed - 1), odd_value(r)); break;
-    case 3: set_both(l, cell, one_in(r, 2) ? odd_value(r) : (int32_t)(period + 1 + 336 * between(r, -1, 1))); break;
-    case 4: set_both(l, 4, (int32_t)between(r, 0, one_in(r, 4) ? 1000000000 : 30 * period % 1000000000)); break;
-    case 5: set_both(l, cell + CELL_RAMPS, odd_ramps(r)); break;
-    case 6: set_both(l, cell + CELL_MINUTE, odd_minute(r, l->plain[4])); break;
-    case 7: set_both(l, 64 + 32 * (size_t)f + (size_t)between(r, 7, 8), (int32_t)between(r, 9998, 10002)); break;
-    default: set_both(l, cell + (size_t)between(r, 1, 23), odd_value(r)); break;
-    }
-}
-
-/* An offer with quantities, and ramps and minutes for some, that only a damaged book holds. */
-static void damaged_offer(struct list *l, struct random *r, size_t cell, int32_t stamp)
-{
-    bool is_huge = one_in(r, 4);
-    set_both(l, cell, stamp);
-    if (one_in(r, 2))
-        set_both(l, cell + CELL_RAMPS, odd_ramps(r));
-    if (one_in(r, 2))
-        set_both(l, cell + CELL_MINUTE, odd_minute(r, l->plain[4]));
-    for (int i = 0; i < 10; i++) {
-        int32_t quantity = one_in(r, 3) ? (int32_t)between(r, -60, 60) : one_in(r, 4) ? odd_value(r) : 0;
-        set_both(l, cell + 4 + 2 * (size_t)i, 100 * i + (int32_t)between(r, -60, 60));
-        set_both(l, cell + 5 + 2 * (size_t)i, is_huge ? (int32_t)between(r, INT32_MAX - 9, INT32_MAX) : quantity);
-    }
-}
-
-/* A sound offer but for blanks that may stand anywhere, as an older book holds it. */
-static void older_offer(struct list *l, struct random *r, size_t cell, int32_t stamp)
-{
-    set_both(l, cell, stamp);
-    for (int i = 0; i < 10; i++) {
-        bool is_blank = one_in(r, 2);
-        set_both(l, cell + 4 + 2 * (size_t)i, is_blank ? 0 : 100 * i + (int32_t)between(r, -40, 40));
-        set_both(l, cell + 5 + 2 * (size_t)i, is_blank ? 0 : (int32_t)between(r, 1, 40));
-    }
-}
-
-/* The other cell's offer, or nearly. */
-static void copied_offer(struct list *l, struct random *r, size_t cell, int32_t stamp, size_t from)
-{
-    set_both(l, cell, stamp);
-    for (size_t i = 1; i < 24; i++)
-        set_both(l, cell + i, l->plain[from + i]);
-    for (int64_t changes = between(r, 0, 2); changes > 0; changes--) {
-        size_t pair = cell + 5 + 2 * (size_t)between(r, 0, 9);
-        set_both(l, pair, one_in(r, 3) ? odd_value(r) : (int32_t)between(r, -60, 60));
-    }
-}
-
-/* Damaged or older offers near gate closure, in one of the two cells or in both; then offers and readings. */
-static void damaged_near_gate(struct list *l, struct random *r, struct scene *scene)
-{
-    int64_t now = l->plain[4];
-    if (now < 0 || now > 1000000000 || !usable_sizes(l))
-        return;
-    int f = scene->active[random_bits(r) % SCENE_FACILITIES] % scene->facilities;
-    int s = (int)between(r, 0, scene->services - 1);
-    int64_t period = now / 30 + between(r, 1, 2);
-    size_t block = 64 + 32 * (size_t)f;
-    size_t standing = place_of_cell(scene->facilities, scene->services, f, s, 0, period % 336);
-    size_t variation = place_of_cell(scene->facilities, scene->services, f, s, 1, period % 336);
-    set_both(l, block, one_in(r, 6) ? odd_value(r) : (int32_t)between(r, 1, 3));
-    set_both(l, block + 12 + (size_t)s, 1);
-    if (one_in(r, 3))
-        set_both(l, block + (size_t)between(r, 7, 8), one_in(r, 2) ? odd_value(r) : (int32_t)between(r, 9998, 10002));
-    if (one_in(r, 4)) { /* a link has no outage window by calls */
-        set_both(l, block + 17, (int32_t)period - 1);
-        set_both(l, block + 18, (int32_t)period + 1);
-    }
-    int which = (int)between(r, 0, 3);
-    void (*held_offer)(struct list *, struct random *, size_t, int32_t) = one_in(r, 2) ? older_offer : damaged_offer;
-    if (which != 1)
-        held_offer(l, r, standing, one_in(r, 8) ? odd_value(r) : 1);
-    if (which == 1)
-        held_offer(l, r, variation, (int32_t)period + 1);
-    if (which >= 2)
-        copied_offer(l, r, variation, (int32_t)period + 1, standing);
-    for (int i = 0; i < 8 && !l->is_wrong; i++) {
-        struct record record = i == 0 ? look_up_of(f, s, (int32_t)period) : i == 1 ? total_of(s, (int32_t)period)
-                             : one_in(r, 3)                                        ? random_standing(r, scene, f, s, period)
-                                                                                   : random_variation(r, scene, f, s, period);
-        compared_call(l, r, record.bytes, sizeof record.bytes);
-    }
-}
-
-/* A blank put before some pair of the cell's, as an older book may hold it; the last pair makes room. */
-static void open_gap(struct list *l, struct random *r, size_t cell, int s)
-{
-    size_t last = s == 0 ? 9 : 4, blank = (size_t)between(r, 0, (int64_t)last - 1);
-    for (size_t i = last; i > blank; i--)
-        for (size_t word = 4; word <= 5; word++)
-            set_both(l, cell + word + 2 * i, l->plain[cell + word + 2 * (i - 1)]);
-    set_both(l, cell + 4 + 2 * blank, 0);
-    set_both(l, cell + 5 + 2 * blank, 0);
-}
-
-/* Standing offers filed again over their own cells, whose minute, and ramps or blanks for some, were damaged. */
-static void damaged_duplicates(struct list *l, struct random *r, struct scene *scene)
-{
-    for (int i = 0; i < SCENE_KEYS && usable_sizes(l) && !l->is_wrong; i++) {
-        int f = scene->keys[i].facility, s = scene->keys[i].service;
-        int64_t slot = scene->keys[i].period < 0 ? 0 : scene->keys[i].period % 336;
-        if (f >= scene->facilities || s >= scene->services)
-            continue;
-        size_t cell = place_of_cell(scene->facilities, scene->services, f, s, 0, slot);
-        if (l->plain[cell] != 1)
-            continue;
-        set_both(l, cell + CELL_MINUTE, odd_minute(r, l->plain[4]));
-        if (one_in(r, 4))
-            set_both(l, cell + CELL_RAMPS, odd_ramps(r));
-        if (one_in(r, 3))
-            open_gap(l, r, cell, s);
-        for (int closes_up = 0; closes_up <= 1 && !l->is_wrong; closes_up++) {
-            struct record record = held_again(scene, f, s, slot, closes_up);
-            compared_call(l, r, record.bytes, sizeof record.bytes);
-        }
-    }
-}
-
-static void damaged_round(struct list *l, struct random *r, struct scene *scene)
-{
-    int32_t head[4];
-    memcpy(head, l->plain, sizeof head);
-    l->lent = l->needed + (size_t)between(r, 0, GUARD);
-    if (one_in(r, 12)) {
-        static const size_t few[] = {0, 1, 63, 64, 65};
-        l->lent = one_in(r, 2) ? few[random_bits(r) % 5] : l->needed - 1;
-    } else if (one_in(r, 6)) {
-        set_both(l, (size_t)between(r, 0, 3), odd_value(r));
-    } else if (one_in(r, 20)) {
-        set_both(l, 1, (int32_t)between(r, 0, 3));
-    }
-    for (int64_t i = between(r, 1, 6); i > 0; i--)
-        damage_word(l, r, scene);
-    if (usable_sizes(l)) {
-        scene->facilities = l->plain[2];
-        scene->services = l->plain[3];
-    }
-    if (one_in(r, 2))
-        damaged_near_gate(l, r, scene);
-    if (one_in(r, 4))
-        damaged_duplicates(l, r, scene);
-    for (int64_t i = between(r, 4, 20); i > 0 && !l->is_wrong; i--) {
-        uint8_t bytes[LONGEST_RECORD];
-        size_t length = random_call(r, scene, bytes);
-        compared_call(l, r, bytes, length);
-    }
-    /* the head's first words are mended, so that later rounds aren't all refused with 1 */
-    for (size_t i = 0; i < 4; i++)
-        set_both(l, i, head[i]);
-    scene->facilities = l->facilities;
-    scene->services = l->services;
-}
-
-static void damaged_part(struct list *l, struct random *r, struct scene *scene)
-{
-    l->is_damaged = true;
-    damaged_lists++;
-    for (int64_t rounds = between(r, 1, 4); rounds > 0 && !l->is_wrong; rounds--)
-        damaged_round(l, r, scene);
-}
-
-static void one_list(struct list *l, struct random *r)
-{
-    struct scene scene;
     int32_t most = one_in(r, 2) ? 3 : one_in(r, 2) ? 8 : 64;
-    l->facilities = one_in(r, 30) ? 64 : (int32_t)between(r, 1, most);
-    l->services = one_in(r, 2) ? 1 : 5;
-    l->needed = BILZHAAN_BOOK_WORDS(l->facilities, l->services);
-    l->lent = l->needed + (size_t)between(r, 0, GUARD);
-    l->call = 0;
-    l->length = 0;
-    l->is_damaged = l->is_wrong = false;
-    int32_t *library = malloc((l->needed + 2 * GUARD) * sizeof library[0]);
-    int32_t *plain = malloc((l->needed + 2 * GUARD) * sizeof plain[0]);
-    if (!library || !plain) {
-        fprintf(stderr, "no memory for a book of %zu words\n", l->needed);
-        exit(2);
-    }
-    l->library = library + GUARD;
-    l->plain = plain + GUARD;
-    open_list(l, r);
-    scene_of(&scene, r, l->plain, l->facilities, l->services);
-    prologue(l, r, &scene);
-    for (int64_t calls = between(r, 20, 260); calls > 0 && !l->is_wrong; calls--) {
-        uint8_t bytes[LONGEST_RECORD];
-        size_t length = random_call(r, &scene, bytes);
-        compared_call(l, r, bytes, length);
-    }
-    check(l, same_words(l), "words differ at the end of the list");
-    if (one_in(r, 2) && !l->is_wrong)
-        damaged_part(l, r, &scene);
-    check(l, same_words(l), "words differ at the end of the damaged part");
-    check(l, guards_stand(l), "words outside the book were written");
-    list_machine_close(&l->machine);
-    free(library);
-    free(plain);
+    struct size size = {one_in(r, 30) ? 64 : (int32_t)between(r, 1, most), one_in(r, 2) ? 1 : 5};
+    return size;
+}
+
+/* Each in its turn, over and over. */
+static struct size size_in_turn(long number)
+{
+    struct size size = {(int32_t)((number - 1) / 2 % 64 + 1), number % 2 ? 1 : 5};
+    return size;
 }
 
 /* ---- what must have been tried ---- */
@@ -303,6 +49,25 @@ static void tried(const char *what, int which, long times)
         failed++;
         printf("never tried: %s %d\n", what, which);
     }
+}
+
+static void print_sizes(void)
+{
+    long least = LONG_MAX, most = 0, calls = 0;
+    for (int i = 0; i < 2 * BILZHAAN_FACILITIES_MOST; i++) {
+        long of_size = calls_of_size[i / 2 + 1][i % 2];
+        least = of_size < least ? of_size : least;
+        most = of_size > most ? of_size : most;
+        calls += of_size;
+    }
+    printf("%ld calls, %ld of them on damaged books; of each F 1 to 64 with S 1 and 5 %ld to %ld; pages written: %ld\n", calls,
+           damaged_calls, least, most, pages_written);
+}
+
+static void tried_sizes(void)
+{
+    for (int i = 0; i < 2 * BILZHAAN_FACILITIES_MOST; i++)
+        tried(i % 2 ? "S 5 with F" : "S 1 with F", i / 2 + 1, calls_of_size[i / 2 + 1][i % 2]);
 }
 
 /* What came of the minutes and the ramps. */
@@ -406,9 +171,35 @@ static void tried_revisions(void)
     tried("standing offer inside gate closure on a damaged book", 0, v->damaged);
 }
 
-static void print_counts(void)
+static void print_struck(void)
 {
-    printf("%ld lists, %ld of them damaged at the end\nnumbers drawn:", lists, damaged_lists);
+    long after = 0;
+    for (int i = 0; i < 20; i++)
+        after += struck.after[i];
+    printf("\nstruck out, in each list for one facility: refused calls %ld, filings of other facilities %ld; calls kept %ld; look-ups"
+           " compared inside %ld, after both lists %ld, by number", struck.refused, struck.filings, struck.kept, struck.inside, after);
+    for (int i = 0; i < 20; i++)
+        if (struck.after[i] > 0)
+            printf(" %d:%ld", i, struck.after[i]);
+    printf("; answered by a link's offer %ld", struck.of_links);
+}
+
+static void tried_struck(void)
+{
+    static const int numbers[] = {0, 3, 5, 10, 19};
+    tried("refused call struck out", 0, struck.refused);
+    tried("filing struck out", 0, struck.filings);
+    tried("look-up inside the shorter list", 0, struck.inside);
+    for (int i = 0; i < 5; i++)
+        tried("look-up after the shorter list", numbers[i], struck.after[numbers[i]]);
+    tried("look-up of a link after the shorter list", 0, struck.of_links);
+}
+
+static void print_counts(bool is_every_size)
+{
+    printf("%ld lists, %ld of them damaged at the end\n", lists, damaged_lists);
+    print_sizes();
+    printf("numbers drawn:");
     for (int i = 0; i < 20; i++)
         printf(" %d:%ld", i, drawn[i]);
     printf("\naccepted calls:");
@@ -427,6 +218,7 @@ static void print_counts(void)
     print_minutes();
     print_revisions();
     print_blanks();
+    print_struck();
     printf("\nlinks, numbers drawn:");
     for (int i = 0; i < 20; i++)
         if (of_links[i] > 0)
@@ -460,6 +252,25 @@ static void print_counts(void)
     tried_minutes();
     tried_revisions();
     tried_blanks();
+    tried_struck();
+    if (is_every_size)
+        tried_sizes();
+}
+
+/* ---- the lists ---- */
+
+static struct list list;
+
+static void one_list(uint64_t seed, long number, bool is_every_size)
+{
+    struct random r = random_of_list(seed, number);
+    struct size size = is_every_size ? size_in_turn(number) : some_size(&r);
+    list.seed = seed;
+    list.number = number;
+    lists++;
+    random_list(&list, &r, size.facilities, size.services);
+    calls_of_size[size.facilities][size.services == 5] += list.call;
+    calls_made += list.call;
 }
 
 static double seconds_now(void)
@@ -469,20 +280,60 @@ static double seconds_now(void)
     return (double)t.tv_sec + (double)t.tv_nsec / 1e9;
 }
 
+static void for_seconds(double seconds, uint64_t seed)
+{
+    double end = seconds_now() + seconds;
+    do {
+        one_list(seed, lists + 1, false);
+    } while (seconds_now() < end && failed < FAILURES_SHOWN);
+}
+
+/* Whole rounds of the sizes. */
+static void for_calls(long calls, uint64_t seed)
+{
+    do {
+        one_list(seed, lists + 1, true);
+    } while ((calls_made < calls || lists % (2 * BILZHAAN_FACILITIES_MOST) != 0) && failed < FAILURES_SHOWN);
+}
+
+static int usage(void)
+{
+    fprintf(stderr, "usage: differential_test [SECONDS] [SEED] [LIST], or differential_test --every-size CALLS [SEED] [LIST]\n");
+    return 2;
+}
+
+/* The argument as a whole number from 1 on, else 0: "10,000,000" is none, and not 10. */
+static long counting_number(const char *argument)
+{
+    char *end;
+    long n = strtol(argument, &end, 10);
+    return *end == '\0' && n > 0 ? n : 0;
+}
+
 int main(int argc, char **argv)
 {
+    bool is_every_size = argc > 1 && strcmp(argv[1], "--every-size") == 0;
+    argc -= is_every_size;
+    argv += is_every_size;
     double seconds = argc > 1 ? atof(argv[1]) : 20;
-    struct list l;
-    memset(&l, 0, sizeof l);
-    l.seed = argc > 2 ? strtoull(argv[2], NULL, 10) : 1;
-    struct random r = {l.seed};
-    double end = seconds_now() + seconds;
-    printf("seed %" PRIu64 ", %g seconds\n", l.seed, seconds);
-    do {
-        l.number = ++lists;
-        one_list(&l, &r);
-    } while (seconds_now() < end && failed < FAILURES_SHOWN);
-    print_counts();
+    long calls = is_every_size && argc > 1 ? counting_number(argv[1]) : 0, alone = argc > 3 ? counting_number(argv[3]) : 0;
+    uint64_t seed = argc > 2 ? strtoull(argv[2], NULL, 10) : 1;
+    if (argc > 4 || (is_every_size && calls == 0) || (argc > 3 && alone == 0))
+        return usage();
+    setvbuf(stdout, NULL, _IOLBF, 0); /* a long run shows a failure at once */
+    room_for_lists(&list);
+    if (alone > 0) {
+        printf("seed %" PRIu64 ", list %ld alone\n", seed, alone);
+        one_list(seed, alone, is_every_size);
+    } else if (is_every_size) {
+        printf("seed %" PRIu64 ", %ld calls\n", seed, calls);
+        for_calls(calls, seed);
+    } else {
+        printf("seed %" PRIu64 ", %g seconds\n", seed, seconds);
+        for_seconds(seconds, seed);
+    }
+    if (alone == 0)
+        print_counts(is_every_size);
     printf("%ld passed, %ld failed\n", passed, failed);
     return failed != 0;
 }

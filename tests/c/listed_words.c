@@ -32,7 +32,7 @@ int listed_opening_number(size_t count, int32_t facilities, int32_t services, co
 
 /* "Opening writes words 0 to N − 1: mark, version, F and S as above, clock 0, all windows 1 to 0 (empty), given limits,
  * else zero." */
-static void opened(const struct list_machine *m, int32_t *words)
+void listed_opening(const struct list_machine *m, int32_t *words)
 {
     memset(words, 0, BILZHAAN_BOOK_WORDS(m->facilities, m->services) * sizeof words[0]);
     words[0] = 0x534F42;
@@ -76,7 +76,7 @@ static void put_offer(const struct list_machine *m, int32_t *words, const uint8_
         cell[4 + i] = word_at(r, 32 + 4 * i);
 }
 
-static void put(const struct list_machine *m, int32_t *words, const uint8_t *r)
+void listed_call(const struct list_machine *m, int32_t *words, const uint8_t *r)
 {
     int32_t *block = words + 64 + 32 * (size_t)r[6];
     switch (r[5]) {
@@ -108,7 +108,7 @@ static void put(const struct list_machine *m, int32_t *words, const uint8_t *r)
 
 void listed_words(const struct list_machine *m, int32_t *words)
 {
-    opened(m, words);
+    listed_opening(m, words);
     for (size_t i = 0; i < m->count; i++)
-        put(m, words, m->accepted[i]);
+        listed_call(m, words, m->accepted[i]);
 }

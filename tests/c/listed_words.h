@@ -11,4 +11,8 @@ int listed_opening_number(size_t count, int32_t facilities, int32_t services, co
 /* Writes words 0 to N - 1 for the machine's F and S. */
 void listed_words(const struct list_machine *m, int32_t *words);
 
+/* The same a step at a time: after the opening alone; and by one more accepted call, on the words that the ones before made. */
+void listed_opening(const struct list_machine *m, int32_t *words);
+void listed_call(const struct list_machine *m, int32_t *words, const uint8_t *record);
+
 #endif

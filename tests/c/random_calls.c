@@ -68,6 +68,8 @@ void scene_of(struct scene *scene, struct random *r, const int32_t *words, int32
     scene->services = services;
     for (int i = 0; i < SCENE_FACILITIES; i++)
         scene->active[i] = (int)between(r, 0, facilities - 1);
+    if (one_in(r, 2))
+        scene->active[0] = facilities - 1; /* its cells end the book */
 }
 
 static void remember(struct scene *scene, int f, int s, int64_t period)
@@ -106,7 +108,7 @@ static int64_t not_begun(const struct scene *scene, int64_t period)
     return behind > 0 ? period + (behind + 335) / 336 * 336 : period;
 }
 
-/* Near gate closure, near the horizon, weeks from a period filed for, or anywhere. */
+/* Near gate closure, near the horizon, weeks from a period filed for, at an end of the week's slots, or anywhere. */
 static int64_t some_period(struct random *r, const struct scene *scene)
 {
     int64_t now = now_of(scene), first = now / 30 + 1, horizon = 48 * (now / 1440 + 7);
@@ -123,6 +125,7 @@ static int64_t some_period(struct random *r, const struct scene *scene)
     case 8:
     case 9:
     case 10: return filed;
+    case 11: return not_begun(scene, one_in(r, 2) ? 335 : 0);
     default: return between(r, first, first + 3);
     }
 }

@@ -18,6 +18,11 @@ static inline void set_word(struct record *r, int at, int32_t value)
     r->bytes[at + 3] = (uint8_t)bits;
 }
 
+static inline int32_t word_of(const uint8_t *bytes, int at)
+{
+    return (int32_t)((uint32_t)bytes[at] << 24 | (uint32_t)bytes[at + 1] << 16 | (uint32_t)bytes[at + 2] << 8 | bytes[at + 3]);
+}
+
 static inline void set_w(struct record *r, int i, int32_t value)
 {
     set_word(r, BILZHAAN_AT_W0 + 4 * i, value);
