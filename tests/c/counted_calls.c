@@ -43,7 +43,7 @@ static bool takes_back(const struct list *l)
 static void count_take_back(const struct list *l, const struct bilzhaan_answer *a, int64_t now)
 {
     const uint8_t *b = l->bytes;
-    bool is_inside = 30 * period_of(b) - now < 65;
+    bool is_inside = 30 * period_of(b) - now < BILZHAAN_GATE_MINUTES;
     if (l->is_damaged) {
         taken_back_damaged += a->number == 0 && is_inside;
         return;
@@ -69,7 +69,7 @@ static void count_call(const struct list *l, const struct bilzhaan_answer *a, in
     const uint8_t *b = l->bytes;
     int64_t period = period_of(b);
     accepted[b[BILZHAAN_AT_CALL]]++;
-    if (b[BILZHAAN_AT_CALL] == BILZHAAN_CALL_VARIATION && 30 * period - now < 65)
+    if (b[BILZHAAN_AT_CALL] == BILZHAAN_CALL_VARIATION && 30 * period - now < BILZHAAN_GATE_MINUTES)
         inside_gate[b[BILZHAAN_AT_REASON]]++;
     if (b[BILZHAAN_AT_CALL] == BILZHAAN_CALL_LOOK_UP) {
         size_t cell = place_of_cell(l->facilities, l->services, b[BILZHAAN_AT_FACILITY], b[BILZHAAN_AT_SERVICE], 1,
@@ -92,7 +92,7 @@ static struct revision revision_of(const struct list *l, int64_t now)
     v.is_one = true;
     v.is_held = l->plain[place_of_cell(f, s, b[BILZHAAN_AT_FACILITY], b[BILZHAAN_AT_SERVICE], 0, slot)] == 1;
     v.is_hidden = l->plain[place_of_cell(f, s, b[BILZHAAN_AT_FACILITY], b[BILZHAAN_AT_SERVICE], 1, slot)] == next + 1;
-    v.is_inside = 30 * next - now < 65;
+    v.is_inside = 30 * next - now < BILZHAAN_GATE_MINUTES;
     v.is_next_week = next / 336 > now / 30 / 336;
     return v;
 }
@@ -188,7 +188,7 @@ static void find_held_gaps(const struct list *l, int64_t now, struct gaps *g)
     bool varies = b[BILZHAAN_AT_CALL] == BILZHAAN_CALL_VARIATION;
     int64_t period = varies ? period_of(b) : plain_next_period((uint32_t)now, (uint32_t)(period_of(b) % 336));
     const int32_t *standing = cell_of_call(l, 0), *variation = cell_of_call(l, 1);
-    bool is_held = standing[0] == 1 && has_gap(standing + 4), is_inside = 30 * period - now < 65;
+    bool is_held = standing[0] == 1 && has_gap(standing + 4), is_inside = 30 * period - now < BILZHAAN_GATE_MINUTES;
     bool is_varied = varies && variation[0] == period + 1;
     g->in_same = is_held && !varies && memcmp(g->pairs, standing + 4, sizeof g->pairs) == 0;
     g->in_closed_up = is_held && !varies && differ_in_blanks_alone(g->pairs, standing + 4) && has_same_rates(standing, b);
@@ -332,7 +332,7 @@ static void count_link(const struct list *l, const struct bilzhaan_answer *a, in
     if (a->number != 0)
         return;
     accepted_of_links[which]++;
-    if (which == BILZHAAN_CALL_VARIATION && 30 * period_of(b) - now < 65)
+    if (which == BILZHAAN_CALL_VARIATION && 30 * period_of(b) - now < BILZHAAN_GATE_MINUTES)
         links_inside_gate[reason]++;
 }
 

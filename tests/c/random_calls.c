@@ -399,7 +399,7 @@ static struct record some_revision(struct random *r, struct scene *scene)
         unsigned key = (from + i) % SCENE_KEYS;
         int f = scene->keys[key].facility, s = scene->keys[key].service;
         int64_t period = scene->keys[key].period < 0 ? 0 : not_begun(scene, scene->keys[key].period % 336);
-        if (f < scene->facilities && s < scene->services && 30 * period - now_of(scene) < 65
+        if (f < scene->facilities && s < scene->services && 30 * period - now_of(scene) < BILZHAAN_GATE_MINUTES
             && cell_of(scene, f, s, 0, period % 336)[0] == 1)
             return random_standing(r, scene, f, s, period);
     }
@@ -452,7 +452,7 @@ static struct record some_take_back(struct random *r, struct scene *scene)
         int64_t period = scene->keys[key].period;
         if (f < scene->facilities && s < scene->services && period > now_of(scene) / 30
             && cell_of(scene, f, s, 1, period % 336)[0] == period + 1
-            && (anywhere || (30 * period - now_of(scene) < 65 && cell_of(scene, f, s, 0, period % 336)[0] == 1)))
+            && (anywhere || (30 * period - now_of(scene) < BILZHAAN_GATE_MINUTES && cell_of(scene, f, s, 0, period % 336)[0] == 1)))
             return take_back_at(r, scene, f, s, period);
     }
     int f = some_facility(r, scene), s = some_service(r, scene, f);
@@ -491,7 +491,7 @@ static struct record some_clock(struct random *r, const struct scene *scene)
     case 5: to = 30 * period + between(r, -1, 1); break;
     case 6:
     case 7:
-    case 8: to = 30 * period - 65 + between(r, -1, 1); break;
+    case 8: to = 30 * period - BILZHAAN_GATE_MINUTES + between(r, -1, 1); break;
     case 9: to = now + between(r, 0, 1440); break;
     case 10:
     case 11:

@@ -1,6 +1,7 @@
 -- Each sentence that names a kind, by the rows of the table.
 use mathlib.Core.Path.{_≡_, refl, sym, _∙_, ap, ap₂}
 use mathlib.Core.Bool.{Bool, true, false, not, _&&_, _||_, and-true, and-false, or-true, or-false, and-assoc}
+use mathlib.Core.List.{List}
 use Prim.Native.Nat.{ℕ, zero, suc}
 use native.Mathlib.Omega.{arith}
 use lib.Dec.{ltb}
@@ -46,11 +47,18 @@ unfolding Outages has-kind kind-row
 outages now c m n =
     by-kind (kind-of c) (λ e. rw e (sym (or-false _))) (λ e. rw e (sym (or-false _))) (λ e. rw e (simp (no-count, or-true))) (λ a b c. rw (a, b, c) (sym (or-false _)))
 
+-- A word that is no kind is refused as a kind, whatever is held.
+no-kind-sent : (held : List ℤ) (kind : ℤ) → eqZ kind (pos 1) ≡ false → eqZ kind (pos 2) ≡ false → eqZ kind (pos 3) ≡ false → kind-refused held kind ≡ true
+unfolding kind-refused
+no-kind-sent held kind a b c =
+    let none : is-kind kind ≡ false = the-three kind ∙ rw (a, b, c) in
+    ap (λ (sent : Bool). not sent || (has-kind held && not (eqZ (kind-of held) kind))) none
+
 pub marks : Marks
-unfolding Marks has-kind kind-row marks-refused any-mark-astray
-marks c =
+unfolding Marks kind-row marks-refused any-mark-astray
+marks held c =
     by-kind (kind-of c) (λ e. rw e (simp (and-false, or-false))) (λ e. rw e (simp (and-false, and-true, or-false))) (λ e. rw e (simp (and-false, and-true, or-false)))
-    (λ a b c. rw (a, b, c) (simp (and-false, or-false)))
+    (λ a b d. rw (no-kind-sent held (kind-of c) a b d) refl)
 
 energy-alone : (s : ℕ) → between 0 0 s ≡ is-energy s
 energy-alone zero = refl

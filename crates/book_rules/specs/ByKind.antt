@@ -10,7 +10,7 @@ use lib.Signed.{ltZ}
 use Rattle.offer_rules.specs.Numbers.{eqZ, beyond, any-beyond}
 use Rattle.offer_rules.specs.Offer.{kind-of, is-energy, is-reserve, max-proportion, proportion, proportion-refused}
 use Rattle.offer_rules.specs.Gate.{Grounds, covers, reason-holds}
-use Rattle.book_rules.specs.Refusals.{has-kind, outage-refused, kind-refused, is-registered, marks-refused, registration-refused}
+use Rattle.book_rules.specs.Refusals.{has-kind, outage-refused, kind-refused, maxima-refused, is-registered, capability-refused, registration-refused}
 
 -- "Facility kinds: 1 generation, 2 load"; "A cross-border link becomes facility kind 3"
 abbrev pub is-generation : ℤ → Bool
@@ -39,12 +39,17 @@ unfoldable pub Outages : Type 0
 Outages = (now : ℕ) (c : List ℤ) (m n : ℤ)
     → outage-refused now c m n ≡ ((beyond (pos 0) (pos now) m || beyond (pos 1) (cond (is-load (kind-of c)) (pos 48) (pos 3)) n) || is-link (kind-of c))
 
--- 8 "a mark not 0 or 1; load with mark 0 or 4 set"; a link "may have mark 0 only, else 8"
+-- 8, all of it: its kind and maxima, "a mark not 0 or 1; load with mark 0 or 4 set"; a link "may have mark 0 only, else 8"
+abbrev pub load-astray : List ℤ → Bool
+load-astray c = is-load (kind-of c) && (is-registered c 0 || is-registered c 4)
+
+abbrev pub link-astray : List ℤ → Bool
+link-astray c = is-link (kind-of c) && (((is-registered c 1 || is-registered c 2) || is-registered c 3) || is-registered c 4)
+
 unfoldable pub Marks : Type 0
-Marks = (c : List ℤ)
-    → marks-refused c
-    ≡ ((any-beyond (pos 0) (pos 1) c 12 5 || (is-load (kind-of c) && (is-registered c 0 || is-registered c 4)))
-    || (is-link (kind-of c) && (((is-registered c 1 || is-registered c 2) || is-registered c 3) || is-registered c 4)))
+Marks = (held c : List ℤ)
+    → capability-refused held c
+    ≡ ((kind-refused held (kind-of c) || maxima-refused c) || ((any-beyond (pos 0) (pos 1) c 12 5 || load-astray c) || link-astray c))
 
 -- 9 "mark for the service not 1"; "also covers [a link's] offers for services 1 to 4"
 unfoldable pub Registrations : Type 0

@@ -56,11 +56,11 @@ fn kind_row(kind: i32) -> Kind
             longest_outage: 0,
             proportion_tested: false,
         },
-        // no kind: what is asked whatever the kind; 5, or in call 2 the kind's own 8, is drawn
+        // no kind: what is asked whatever the kind; 5 is drawn, or in call 2 the kind's own 8
         _ => Kind {
             known: false,
             offers: Range { first: 0, last: 4 },
-            marks: Range { first: 0, last: 4 },
+            marks: Range { first: 1, last: 0 },
             reasons: Range { first: 3, last: 5 },
             longest_outage: 3,
             proportion_tested: false,
