@@ -143,8 +143,8 @@ def add_output_options(parser):
 
 
 def add_offer_options(parser, is_variation):
-    parser.add_argument('--proportion', type=proportion, action=Once, metavar='N', help='reserve proportion, thousandths or with %%; '
-                        + alternatives(kinds_with(lambda kind: kind.proportion)) + ' must give one')
+    parser.add_argument('--proportion', type=proportion, action=Once, metavar='N', help='reserve proportion, thousandths or with %%; a '
+                        + alternatives(kinds_with(lambda kind: kind.proportion)) + ' facility must give one')
     parser.add_argument('--ramp-up', type=ramp, action=Once, metavar='N', help='energy ramp-up rate, tenths of a MW per minute or with MW/min; 0 if left out')
     parser.add_argument('--ramp-down', type=ramp, action=Once, metavar='N', help='energy ramp-down rate, likewise')
     either = parser.add_mutually_exclusive_group(required=True)
