@@ -16,3 +16,4 @@ pub mod OneCall
 pub mod Afterwards
 pub mod Ageless
 pub mod Totals
+pub mod Duplicates

@@ -8,13 +8,13 @@ use Prim.Native.Nat.{ℕ, zero, suc, _+_, _<_}
 use lib.Dec.{eqb}
 use lib.IntN.{ℤ, pos, _+ℤ_}
 use lib.ListN.{length, drop}
-use Rattle.offer_rules.specs.Numbers.{toNat, zeros, between}
+use Rattle.offer_rules.specs.Numbers.{toNat, word, zeros, between}
 use Rattle.offer_rules.specs.Time.{IsNext}
-use Rattle.offer_rules.specs.Offer.{pairs, Held, all-blank, BlanksLast, blank-before-filled}
+use Rattle.offer_rules.specs.Offer.{pairs, Held, accepted-at, all-blank, BlanksLast, blank-before-filled}
 use Rattle.book_rules.specs.Record.{call-of, facility-of, service-of, period-word, offer-in, record-number}
-use Rattle.book_rules.specs.Words.{is-book, opening-number, opening-words}
+use Rattle.book_rules.specs.Words.{cell, cell-held, ramps-fit, is-book, opening-number, opening-words}
 use Rattle.book_rules.specs.Force.{View, in-force, pairs-of, Answer, plain}
-use Rattle.book_rules.specs.Refusals.{force-number, judge, look-up-reply, total-reply, reply}
+use Rattle.book_rules.specs.Refusals.{equal-words, force-number, judge, look-up-reply, total-reply, reply}
 use Rattle.book_rules.specs.Book.{facilities-in, services-in, now-in, book-view, book-accept, book-answer, book-after, book-answers, book-run}
 use Rattle.book_rules.specs.ByNumber.{is-offer, own-force, own-held, own-gate, applies}
 use Rattle.book_rules.specs.ListMachine.{list-answers}
@@ -98,6 +98,15 @@ unfoldable pub HeldAsFiled : Type 0
 HeldAsFiled = (w : List ℤ) (b : List ℕ) → is-accepted w b ≡ true
     → (call-of b ≡ 3 → own-held (book-view (book-after w b)) b ≡ some (filed-offer w b))
     × (call-of b ≡ 4 → book-view (book-after w b) .variation (facility-of b) (service-of b) (toNat (period-word b)) ≡ cond (all-blank (pairs (offer-in b))) none (some (filed-offer w b)))
+
+-- 18 "equal to the held one in cell words 1–23", where "The duplicate test ignores the minute": of an offer whose ramps a cell can hold (14 leaves no others) and of whatever
+-- cell is held, the comparison is that of the cell's words with those that filing the offer would write, word 3 aside.
+abbrev pub but-minute : List ℤ → List ℤ
+but-minute c = word c 1 ∷ (word c 2 ∷ drop 4 c)
+
+unfoldable pub EqualInCellWords : Type 0
+EqualInCellWords = (c o : List ℤ) (stamp now : ℕ) → length o ≡ 23 → ramps-fit o ≡ true
+    → equal-words (cell-held c .offer) o ≡ equal-words (but-minute c) (but-minute (cell stamp (accepted-at now o)))
 
 -- What a view shows, with every held minute 0.
 unfoldable pub minute-less : Option Held → Option Held

@@ -91,7 +91,7 @@ unfoldable pub gate-number : ℕ → Grounds → ℕ → ℕ → ℕ → List Pa
 gate-number now g s p reason old new = draw (gate-refuses now g s p reason old new) 17
 
 -- 18 "standing offer equal to the held one in cell words 1–23"; "The duplicate test ignores the minute" (document 02). Compared are proportion,
--- both ramps as word 2 gives them, and pairs: of ramps that 14 lets through, equal ramps and equal words 2 are one.
+-- both ramps as word 2 gives them, and pairs; of what 14 lets through that is the cell's words (Claims, EqualInCellWords).
 unfoldable pub equal-words : List ℤ → List ℤ → Bool
 equal-words [] [] = true
 equal-words [] (y ∷ m) = false
