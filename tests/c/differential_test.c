@@ -315,10 +315,11 @@ int main(int argc, char **argv)
     bool is_every_size = argc > 1 && strcmp(argv[1], "--every-size") == 0;
     argc -= is_every_size;
     argv += is_every_size;
-    double seconds = argc > 1 ? atof(argv[1]) : 20;
+    char *after_seconds = "", *after_seed = "";
+    double seconds = argc > 1 ? strtod(argv[1], &after_seconds) : 20;
     long calls = is_every_size && argc > 1 ? counting_number(argv[1]) : 0, alone = argc > 3 ? counting_number(argv[3]) : 0;
-    uint64_t seed = argc > 2 ? strtoull(argv[2], NULL, 10) : 1;
-    if (argc > 4 || (is_every_size && calls == 0) || (argc > 3 && alone == 0))
+    uint64_t seed = argc > 2 ? strtoull(argv[2], &after_seed, 10) : 1;
+    if (argc > 4 || *after_seconds || *after_seed || (is_every_size && calls == 0) || (argc > 3 && alone == 0))
         return usage();
     setvbuf(stdout, NULL, _IOLBF, 0); /* a long run shows a failure at once */
     room_for_lists(&list);

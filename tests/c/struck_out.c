@@ -16,7 +16,7 @@ static bool is_struck(const struct record *record, int f)
 
 static bool is_look_up(const struct record *record) { return record->bytes[BILZHAAN_AT_CALL] == BILZHAAN_CALL_LOOK_UP; }
 
-/* On other words than the whole list's, before they are opened, and without words past them. */
+/* On words filled on their own, before they are opened, and without words past them. */
 static void open_shorter(struct list *l)
 {
     place_words(&l->by_shorter, l->needed, l->number % 2 == 0, (uint8_t)(l->number % 255 + 1));
@@ -102,7 +102,8 @@ static void compare_look_ups(struct list *l, int f)
         l->length = sizeof asked[i].bytes;
         memcpy(l->bytes, asked[i].bytes, l->length);
         check_answers(l, "look-up after the shorter list", &after_shorter.answers[i], "one after the whole list", whole);
-        struck.after[whole->number < 20 ? whole->number : 0]++;
+        if (whole->number < 20)
+            struck.after[whole->number]++;
         struck.of_links += whole->number == 0 && is_link;
     }
 }

@@ -1,4 +1,4 @@
-/* Words on pages of their own that are read-only between calls. A page that is written is noted, with what it held before; every
+/* Words on pages of their own that are read-only until they are written. A page that is written is noted, with what it held before; every
  * other page can't have changed, so a call's words are compared by the noted pages alone. */
 #ifndef BILZHAAN_TESTS_WATCHED_WORDS_H
 #define BILZHAAN_TESTS_WATCHED_WORDS_H

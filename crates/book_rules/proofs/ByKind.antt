@@ -14,7 +14,7 @@ use Rattle.offer_rules.specs.Offer.{kind-of, is-energy, is-reserve, max-proport
 use Rattle.offer_rules.specs.Gate.{covers, admits-service, period-covered, total-moved, reason-holds}
 use Rattle.offer_rules.proofs.KindRows.{each-kind}
 use Rattle.book_rules.specs.Refusals.{has-kind, kind-refused, any-mark-astray, marks-refused}
-use Rattle.book_rules.specs.ByKind.{is-generation, is-load, is-one-of-three, ThreeKinds, HeldKinds, Outages, Marks, Registrations, Proportions, Reasons}
+use Rattle.book_rules.specs.ByKind.{is-generation, is-load, is-one-of-three, ThreeKinds, HeldKinds, Outages, Capabilities, Registrations, Proportions, Reasons}
 
 the-three : (kind : ℤ) → is-kind kind ≡ is-one-of-three kind
 unfolding kind-row
@@ -54,9 +54,9 @@ no-kind-sent held kind a b c =
     let none : is-kind kind ≡ false = the-three kind ∙ rw (a, b, c) in
     ap (λ (sent : Bool). not sent || (has-kind held && not (eqZ (kind-of held) kind))) none
 
-pub marks : Marks
-unfolding Marks kind-row marks-refused any-mark-astray
-marks held c =
+pub capabilities : Capabilities
+unfolding Capabilities kind-row marks-refused any-mark-astray
+capabilities held c =
     by-kind (kind-of c) (λ e. rw e (simp (and-false, or-false))) (λ e. rw e (simp (and-false, and-true, or-false))) (λ e. rw e (simp (and-false, and-true, or-false)))
     (λ a b d. rw (no-kind-sent held (kind-of c) a b d) refl)
 

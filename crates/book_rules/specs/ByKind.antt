@@ -46,8 +46,8 @@ load-astray c = is-load (kind-of c) && (is-registered c 0 || is-registered c 4)
 abbrev pub link-astray : List ℤ → Bool
 link-astray c = is-link (kind-of c) && (((is-registered c 1 || is-registered c 2) || is-registered c 3) || is-registered c 4)
 
-unfoldable pub Marks : Type 0
-Marks = (held c : List ℤ)
+unfoldable pub Capabilities : Type 0
+Capabilities = (held c : List ℤ)
     → capability-refused held c
     ≡ ((kind-refused held (kind-of c) || maxima-refused c) || ((any-beyond (pos 0) (pos 1) c 12 5 || load-astray c) || link-astray c))
 

@@ -46,8 +46,9 @@ unfoldable pub StandsAfterwards : Type 0
 StandsAfterwards = (w : List ℤ) (b : List ℕ) → is-book w ≡ true → record-number b (facilities-in w) (services-in w) ≡ 0 → call-of b ≡ 4
     → applies w b 17 ≡ own-gate (book-view w) b (toNat (period-word b)) (pairs-of (own-force (book-view w) b)) (pairs-of (own-force (book-view (book-accept w b)) b))
 
--- "P is the slot's next period not yet begun; old is the held standing offer, new the one filed" (document 02): on all words and every standing offer, the
--- condition of 17 is the same gate's at the one period p that is the slot's next, whatever variation is in force for p; a negative slot, which 10 refuses, is taken as 0.
+-- "P is the slot's next period not yet begun; old is the held standing offer, new the one filed" (document 02): on all words and every standing offer for a
+-- slot up to 335, the condition of 17 is the same gate's at the one period p that is the slot's next, whatever variation is in force for p; a negative slot, which 10 refuses,
+-- is taken as 0, and no period has a slot above 335.
 -- "A first one always passes the gate."
 unfoldable pub RevisedAtNextPeriod : Type 0
 RevisedAtNextPeriod = (w : List ℤ) (b : List ℕ) → call-of b ≡ 3
@@ -99,7 +100,7 @@ HeldAsFiled = (w : List ℤ) (b : List ℕ) → is-accepted w b ≡ true
     → (call-of b ≡ 3 → own-held (book-view (book-after w b)) b ≡ some (filed-offer w b))
     × (call-of b ≡ 4 → book-view (book-after w b) .variation (facility-of b) (service-of b) (toNat (period-word b)) ≡ cond (all-blank (pairs (offer-in b))) none (some (filed-offer w b)))
 
--- 18 "equal to the held one in cell words 1–23", where "The duplicate test ignores the minute": of an offer whose ramps a cell can hold (14 leaves no others) and of whatever
+-- 18 "equal to the held one in cell words 1–23", where "The duplicate test ignores the minute": of an offer whose ramps a cell can hold (4 and 14 leave no others) and of whatever
 -- cell is held, the comparison is that of the cell's words with those that filing the offer would write, word 3 aside.
 abbrev pub but-minute : List ℤ → List ℤ
 but-minute c = word c 1 ∷ (word c 2 ∷ drop 4 c)

@@ -1,6 +1,6 @@
 -- Demand 3 from contracts alone: what holds of every run of calls that keep the contract of `call`, whatever code carries them out.
 -- "Premise: each call is lent the whole book as the one before left it, the first as opened, and nothing else writes it between."
--- That `open` and `call` keep these two is used where a list of records is answered (listed, answer_list). The opening has six limits by its type.
+-- That `open` and `call` keep the two contracts below, `Opens` and `Calls`, is used where a list of records is answered (listed, answer_list).
 use mathlib.Core.Path.{_≡_}
 use mathlib.Core.Bool.{true, cond, not, _&&_}
 use mathlib.Core.List.{List, [], _∷_}

@@ -91,7 +91,7 @@ unfoldable pub gate-number : ℕ → Grounds → ℕ → ℕ → ℕ → List Pa
 gate-number now g s p reason old new = draw (gate-refuses now g s p reason old new) 17
 
 -- 18 "standing offer equal to the held one in cell words 1–23"; "The duplicate test ignores the minute" (document 02). Compared are proportion,
--- both ramps as word 2 gives them, and pairs; of what 14 lets through that is the cell's words (Claims, EqualInCellWords).
+-- both ramps as word 2 gives them, and pairs; of what 4 and 14 let through that is the cell's words (Claims, EqualInCellWords).
 unfoldable pub equal-words : List ℤ → List ℤ → Bool
 equal-words [] [] = true
 equal-words [] (y ∷ m) = false
@@ -134,7 +134,7 @@ admitted-variation vw f s p reason o =
     offer-number (vw .limits) (vw .capability f) s reason o
     then gate-number (vw .now) (grounds vw f) s p reason (pairs-of (in-force vw f s p)) (pairs-of (will-stand vw f s p o))
 
--- Where 10 is not drawn the slot is 0 to 335, and the period of a variation or a look-up a count; `toNat` then changes nothing.
+-- Where 10 is not drawn the slot is 0 to 335, and the period of a variation, a look-up or a total a count; `toNat` then changes nothing.
 unfoldable pub standing-number : View → ℕ → ℕ → ℤ → ℕ → List ℤ → ℕ
 standing-number vw f s k reason o = admission-number (vw .capability f) s (slot-refused k) then admitted-standing vw f s (toNat k) reason o
 

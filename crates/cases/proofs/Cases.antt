@@ -22,7 +22,7 @@ words-are-shown = (refl, refl)
 
 pub ramps-are-shown : RampsShown
 unfolding computes RampsShown
-ramps-are-shown = (refl, refl)
+ramps-are-shown = refl
 
 pub cell-words : CellWords
 unfolding computes CellWords

@@ -1,4 +1,4 @@
--- The cases marked (p), those of document 02's requests, and some at the edges of numbers and fields that no claim speaks of, as one table with one statement.
+-- The cases marked (p), those of document 02's requests, and some at the edges of numbers and fields, most of which no claim speaks of, as one table with one statement.
 use mathlib.Core.Path.{_≡_}
 use mathlib.Core.Bool.{true, false}
 use mathlib.Core.List.{List, [], _∷_, _++_}
@@ -250,7 +250,7 @@ cases =
     -- "refusal 11 covers it": also of one that the gate would pass
     ∷ over-stands [] 7 (500 at 4000 ∷ []) (draws 11)
     ∷ row (plant ∷ []) (with-reason 7 stands) (draws 11)
-    -- Byte 12 alone "leaves the unused bytes": 13 is zero in both offers.
+    -- Byte 12 alone "leaves the unused bytes": 13 stays unused in both offers.
     ∷ row (plant ∷ []) (with-byte 13 1 stands) (draws 4)
     ∷ row (plant ∷ []) (with-byte 13 1 (variation 4 0 (300 at 4000 ∷ []))) (draws 4)
     -- "A first one always passes the gate", whatever its reason; so does an open one.
@@ -316,6 +316,7 @@ cases =
     -- 10 "P ≥ 48·(d + 7)": the last period of the horizon, and the first past it
     ∷ row (plant ∷ []) (variation 335 0 (300 at 4000 ∷ [])) passes
     ∷ row (plant ∷ []) (variation 336 0 (300 at 4000 ∷ [])) (draws 10)
+    -- "slot outside 0–335"
     ∷ row (plant ∷ []) (standing 336 (300 at 4000 ∷ [])) (draws 10)
     -- 11 "quantity outside 0–99,999, price outside its limits (services 1–4 from 0)"
     ∷ row (plant ∷ []) (standing 4 (99999 at 4000 ∷ [])) (draws 16)
@@ -369,7 +370,7 @@ unfoldable pub The451stDiffers : Type 0
 The451stDiffers = (same-prices-to 450 (500 at 4000 ∷ (200 at 5000 ∷ [])) (450 at 4000 ∷ (300 at 5000 ∷ [])) ≡ true)
     × (same-prices-to 451 (500 at 4000 ∷ (200 at 5000 ∷ [])) (450 at 4000 ∷ (300 at 5000 ∷ [])) ≡ false)
 
--- 20: one word too few, a limit too high, a lowest price above 0, no services; and an opening at each edge.
+-- 20: one word too few, a limit too high and one too low, a lowest price above 0, no services, words too few for five services; and 0 at the edges of the limits.
 abbrev opening-of : ℕ → ℤ → ℤ → ℕ → ℕ
 opening-of words S lowest highest =
     opening-number (replicate words (pos 0)) (pos 1) S (lowest ∷ (pos 450000 ∷ (pos 450000 ∷ (pos 450000 ∷ (pos 450000 ∷ (pos highest ∷ []))))))
@@ -387,13 +388,9 @@ unfoldable pub WordsShown : Type 0
 WordsShown = (words-shown damaged-maximum (ramping 7 stands ∷ []) (look-up 4) ≡ pos 0 ∷ (pos 7 ∷ (pos 0 ∷ (pair-words (500 at 4000 ∷ (200 at 5000 ∷ [])) ++ zeros 16))))
     × (words-shown wide-book (of-all 2 reserve-marks ∷ (with-proportion 5 (standing-for 1 4 []) ∷ [])) (look-up-for 1 4) ≡ pos 5 ∷ zeros 22)
 
--- Words 2 and 3 of a look-up of period 4: as they were filed, and "quotient and remainder rounded toward zero" of −12,345.
-abbrev ramps-shown : List ℤ → List (List ℕ) → List ℤ
-ramps-shown w before = part 2 2 (book-answer (book-run w before) (look-up 4) .words)
-
+-- Words 2 and 3 of a look-up of period 4: "quotient and remainder rounded toward zero" of −12,345.
 unfoldable pub RampsShown : Type 0
-RampsShown = (ramps-shown damaged-maximum (ramping 7 stands ∷ []) ≡ pos 7 ∷ (pos 0 ∷ []))
-    × (ramps-shown (damaged-cell (negsuc 12344) (pos 0)) (plant ∷ []) ≡ negsuc 0 ∷ (negsuc 2344 ∷ []))
+RampsShown = part 2 2 (book-answer (book-run (damaged-cell (negsuc 12344) (pos 0)) (plant ∷ [])) (look-up 4) .words) ≡ negsuc 0 ∷ (negsuc 2344 ∷ [])
 
 -- A filed cell's first words, and "24 zeros" once a variation is taken back.
 unfoldable pub CellWords : Type 0

@@ -1,7 +1,7 @@
 -- Two offers compared word by word from the front, as the loop goes.
 -- The test so far, joined to that of the words left, is the test of all.
-use mathlib.Core.Path.{_≡_, refl}
-use mathlib.Core.Bool.{Bool, true, false, _&&_}
+use mathlib.Core.Path.{_≡_, refl, sym}
+use mathlib.Core.Bool.{Bool, _&&_, and-true, and-assoc}
 use mathlib.Core.List.{List, [], _∷_}
 use Prim.Native.Nat.{ℕ, suc, _+_, _<_, _≤_}
 use native.Mathlib.Numerals.{add-one}
@@ -10,19 +10,14 @@ use lib.IntN.{ℤ, pos}
 use lib.ListN.{length, drop, drop-of-length-le}
 use lib.Seq.{drop-cons}
 use Rattle.offer_rules.specs.Numbers.{eqZ, word}
-use Rattle.offer_rules.proofs.Drawn.{and-true}
 use Rattle.book_rules.specs.Refusals.{equal-words}
-
-and-assoc : (x y z : Bool) → (x && (y && z)) ≡ ((x && y) && z)
-and-assoc true y z = refl
-and-assoc false y z = refl
 
 pub equal-turn : (equal : Bool) (x y : List ℤ) (i : ℕ) → i < length x → i < length y
     → (equal && equal-words (drop i x) (drop i y)) ≡ ((equal && eqZ (word x i) (word y i)) && equal-words (drop (i + 1) x) (drop (i + 1) y))
 unfolding equal-words
 equal-turn equal x y i h k =
     rw (add-one i, drop-cons x i (pos 0) h, drop-cons y i (pos 0) k)
-    (and-assoc equal (eqZ (word x i) (word y i)) (equal-words (drop (suc i) x) (drop (suc i) y)))
+    (sym (and-assoc equal (eqZ (word x i) (word y i)) (equal-words (drop (suc i) x) (drop (suc i) y))))
 
 pub equal-all : (equal : Bool) (x y : List ℤ) (i : ℕ) → length x ≤ i → length y ≤ i → (equal && equal-words (drop i x) (drop i y)) ≡ equal
 unfolding equal-words

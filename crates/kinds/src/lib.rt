@@ -56,7 +56,7 @@ fn kind_row(kind: i32) -> Kind
             longest_outage: 0,
             proportion_tested: false,
         },
-        // no kind: what is asked whatever the kind; 5 is drawn, or in call 2 the kind's own 8
+        // no kind: what is asked of any kind; calls draw 5 of it, or in call 2 the kind's own 8
         _ => Kind {
             known: false,
             offers: Range { first: 0, last: 4 },

@@ -39,7 +39,7 @@ kind-row kind =
     (cond (eqZ kind (pos 2)) (record { known = true; offers = 0 to 4; marks = 1 to 3; reasons = 3 to 6; longest-outage = pos 48; proportion-tested = false })
     -- link, the market's import registered facility: "It offers energy only"; "Reasons 3, 4 and 5 are open to it; 1, 2 and 6 are not"; "An outage call for it is refused"; "mark 0 only"
     (cond (eqZ kind (pos 3)) (record { known = true; offers = 0 to 0; marks = 0 to 0; reasons = 3 to 5; longest-outage = pos 0; proportion-tested = false })
-    -- no kind: what the papers ask whatever the kind, where 5 is the lower number; in call 2 it is 8 itself, whatever the marks
+    -- no kind: what the papers ask of any kind. Calls 3, 4, 5 and 8 draw 5 of it, the lower number, and in call 2 the kind itself is 8, whatever the marks.
     (record { known = false; offers = 0 to 4; marks = 1 to 0; reasons = 3 to 5; longest-outage = pos 3; proportion-tested = false })))
 
 abbrev pub is-kind : ℤ → Bool

@@ -123,8 +123,6 @@ def one_of_each(period=100, slot=100):
     return [clock(7), capability(0, GENERATION), standing(0, 0, slot, [(4000, 70)]), variation(0, 0, period, [(4000, 80)]), outage(0, 0, 1),
             notice(3, 4, 5), withdrawal(), look_up(0, 0, period), total(0, period)]
 
-
-
 # ---- calls that lists share ----
 
 def of_each_kind(t):
@@ -145,6 +143,9 @@ def notices_over_100(t, filed, backs, back_again):
     kind, and withdrawn; `backs` are reason, tenths, and the reason by which `back_again` restores the 50."""
     for reason, quantity, back in backs:
         t.call(filed([(1, quantity)], reason), 17)
+        t.call(notice(back, 100, 100))
+        t.call(filed([(1, quantity)], reason), 17)
+        t.call(notice(back, 1, 2))
         for first, last, number in ((99, 99, 17), (101, 101, 17), (0, 99, 17), (101, 40_000_000, 17), (100, 100, 0), (99, 101, 0)):
             t.call(notice(reason, first, last))
             t.call(filed([(1, quantity)], reason), number)

@@ -21,7 +21,7 @@ write-numbers-requires : tie.Need-write-numbers-requires
 write-numbers-requires c κs = search needs
 
 -- The call keeps the contract that every run is about.
-kept : (c : tie.After-call) → Calls (c .before .args .words .now) (c .before .args .bytes .now) (answer-of (c .call .result)) (c .call .last .0)
+kept : (c : tie.After-call) → Calls (c .before .before .before .args .words .now) (c .before .before .before .args .bytes .now) (answer-of (c .call .result)) (c .call .last .0)
 kept c = record { answer-is = c .call .ensures .0; words-are = c .call .ensures .1 }
 
 -- What is written: the answer's number, words and sum, of which a local holds the bits.
