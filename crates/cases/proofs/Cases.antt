@@ -26,7 +26,7 @@ ramps-are-shown = refl
 
 pub cell-words : CellWords
 unfolding computes CellWords
-cell-words = (refl, refl)
+cell-words = (refl, refl, refl)
 
 pub next-periods : NextPeriods
 unfolding computes NextPeriods

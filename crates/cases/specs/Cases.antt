@@ -9,7 +9,7 @@ use Rattle.offer_rules.specs.Numbers.{word, zeros}
 use Rattle.offer_rules.specs.Time.{next-period}
 use Rattle.offer_rules.specs.Offer.{Pair}
 use Rattle.offer_rules.specs.Gate.{same-prices-to}
-use Rattle.book_rules.specs.Words.{part, put, facility-place, cell-place, standing-half, variation-half, standing-stamp, opening-number, opening-words}
+use Rattle.book_rules.specs.Words.{part, put, facility-place, outage-place, cell-place, standing-half, variation-half, standing-stamp, opening-number, opening-words}
 use Rattle.book_rules.specs.Force.{Answer}
 use Rattle.book_rules.specs.Book.{book-answer, book-run}
 use Rattle.cases.specs.Records.{_at_, pair-words, clock, capability-words, energy-mark, capability-of, capability, standing-for, standing, with-byte, with-reason, of-facility, with-proportion, ramping, variation-for, variation, outage, notice, withdrawal, look-up-for, look-up, total}
@@ -99,7 +99,13 @@ damaged-maximum = put (book-run opened-book (plant ∷ [])) (facility-place 0 + 
 abbrev middle-blank-book : List ℤ
 middle-blank-book = put opened-book (cell-place 1 1 0 0 standing-half 4) ((pos standing-stamp ∷ zeros 3) ++ pair-words (500 at 4000 ∷ (0 at 0 ∷ (200 at 5000 ∷ []))))
 
--- From that book, with the plant's capability filed.
+-- The same cell with −1.0 at 40.00 and 3.0 at 50.00.
+abbrev negative-book : List ℤ
+negative-book =
+    put opened-book (cell-place 1 1 0 0 standing-half 4)
+    ((pos standing-stamp ∷ zeros 3) ++ pair-words (record { price = pos 4000; quantity = negsuc 9 } ∷ (30 at 5000 ∷ [])))
+
+-- From the book with the blank, with the plant's capability filed.
 abbrev with-middle-blank : List (List ℕ) → List ℕ → Line → Case
 with-middle-blank calls call line = record { book = middle-blank-book; before = plant ∷ calls; last = call; answered = line }
 
@@ -304,15 +310,17 @@ cases =
     ∷ row [] (notice 3 5 4) (draws 7)
     ∷ row [] (notice 3 4 40000000) passes
     ∷ row [] (notice 3 4 40000001) (draws 7)
-    -- 8 "W1–W6 outside 0–99,999; W7, W8 outside 0–9,999; W9–W11 outside 0–1,000": W6 100,000, W8 10,000, W11 1,056; "load with mark 0 or 4 set"
+    -- 8 "W1–W6 outside 0–99,999; W7, W8 outside 0–9,999; W9–W11 outside 0–1,000": W6 100,000, W8 10,000, W9 1,001, W11 1,056; "load with mark 0 or 4 set"
     ∷ row [] (of-all 1 all-marks) passes
     ∷ row [] (with-byte 57 1 (with-byte 58 134 (with-byte 59 160 (of-all 1 all-marks)))) (draws 8)
     ∷ row [] (with-byte 67 16 (of-all 1 all-marks)) (draws 8)
+    ∷ row [] (with-byte 71 233 (of-all 1 all-marks)) (draws 8)
     ∷ row [] (with-byte 78 4 (of-all 1 all-marks)) (draws 8)
     ∷ row [] (of-all 2 all-marks) (draws 8)
-    -- 9 "mark for the service not 1": registered for reserve alone
+    -- 9 "mark for the service not 1": registered for reserve alone, and for its first class alone
     ∷ wide (of-all 2 reserve-marks ∷ []) (standing-for 3 4 (30 at 300 ∷ [])) passes
     ∷ wide (of-all 2 reserve-marks ∷ []) (standing-for 4 4 (30 at 300 ∷ [])) (draws 9)
+    ∷ wide (of-all 2 (pos 0 ∷ (pos 1 ∷ replicate 3 (pos 0))) ∷ []) (standing-for 2 4 (20 at 200 ∷ [])) (draws 9)
     -- 10 "P ≥ 48·(d + 7)": the last period of the horizon, and the first past it
     ∷ row (plant ∷ []) (variation 335 0 (300 at 4000 ∷ [])) passes
     ∷ row (plant ∷ []) (variation 336 0 (300 at 4000 ∷ [])) (draws 10)
@@ -334,6 +342,7 @@ cases =
     ∷ in-wide (secondary 900) passes
     ∷ in-wide (secondary 901) (draws 15)
     ∷ in-wide (secondary 0) (draws 15)
+    ∷ in-wide (with-proportion 801 (standing-for 3 4 (30 at 300 ∷ []))) (draws 15)
     ∷ wide (of-all 2 reserve-marks ∷ []) (secondary 65535) passes
     -- 16 "total above generation or combined maximum (energy), or above the service's own"
     ∷ row (capability 800 1300 ∷ []) (standing 4 (1300 at 4000 ∷ [])) (draws 16)
@@ -352,6 +361,10 @@ cases =
     ∷ noticed [] 5 passes
     ∷ noticed (withdrawal ∷ []) 5 (draws 17)
     ∷ noticed (withdrawal ∷ []) 4 passes
+    -- "a quantity below 0, which only a damaged book holds, counts as 0" in the gate; "its ten quantities added" in a look-up: −1.0 and 3.0
+    ∷ record { book = negative-book; before = plant ∷ []; last = look-up 4; answered = reads 0 3 20 }
+    ∷ record { book = negative-book; before = plant ∷ (notice 4 4 4 ∷ (clock 56 ∷ [])); last = variation 4 4 (31 at 5000 ∷ []); answered = passes }
+    ∷ record { book = negative-book; before = plant ∷ (notice 4 4 4 ∷ (clock 56 ∷ [])); last = variation 4 4 (30 at 5000 ∷ []); answered = draws 17 }
     -- 18: another proportion is no duplicate
     ∷ wide (of-all 1 all-marks ∷ (secondary 900 ∷ [])) (secondary 900) (draws 18)
     ∷ wide (of-all 1 all-marks ∷ (secondary 900 ∷ [])) (secondary 899) passes
@@ -392,10 +405,11 @@ WordsShown = (words-shown damaged-maximum (ramping 7 stands ∷ []) (look-up 4) 
 unfoldable pub RampsShown : Type 0
 RampsShown = part 2 2 (book-answer (book-run (damaged-cell (negsuc 12344) (pos 0)) (plant ∷ [])) (look-up 4) .words) ≡ negsuc 0 ∷ (negsuc 2344 ∷ [])
 
--- A filed cell's first words, and "24 zeros" once a variation is taken back.
+-- A filed cell's first words, and "24 zeros" once a variation is taken back; the window of an outage, "m div 30 + 1 to m div 30 + n".
 unfoldable pub CellWords : Type 0
 CellWords = (part (cell-place 1 1 0 0 standing-half 4) 4 (book-run damaged-maximum (clock 10 ∷ (ramping 7 stands ∷ []))) ≡ pos 1 ∷ (pos 0 ∷ (pos 70000 ∷ (pos 10 ∷ []))))
     × (part (cell-place 1 1 0 0 variation-half 4) 24 (book-run opened-book (clock 10 ∷ (both ++ (blank 0 ∷ [])))) ≡ zeros 24)
+    × (part (outage-place 0) 2 (book-run opened-book (plant ∷ tripped)) ≡ pos 2 ∷ (pos 4 ∷ []))
 
 -- A slot's next period in the minute before one of its periods, and in the first of it.
 unfoldable pub NextPeriods : Type 0
