@@ -1,6 +1,6 @@
 #!/usr/bin/env bash
 # Random lists for every F from 1 to 64 with S 1 and 5 in turn, until so many calls were compared: number, 24 words, sum and every
-# word of the book at every call, striking out, damaged books and records. Some ten minutes; .ci/run has some seconds of it, by tests/run.sh.
+# word of the book at every call, striking out, damaged books and records. Some six minutes; .ci/run has some seconds of it, by tests/run.sh.
 # Arguments: the static library, calls (10,000,000), seed (1), a list's number for that list alone. Last line: 'N passed, M failed'.
 set -euo pipefail
 
