@@ -95,19 +95,17 @@ damaged-cell ramps minute = put opened-book (cell-place 1 1 0 0 standing-half 4)
 abbrev damaged-maximum : List ℤ
 damaged-maximum = put (book-run opened-book (plant ∷ [])) (facility-place 0 + 7) (pos 20000 ∷ [])
 
--- The standing cell of slot 4 as only a host writes it, or an older library left it: 50.0 at 40.00, a blank, 20.0 at 50.00.
-abbrev middle-blank-book : List ℤ
-middle-blank-book = put opened-book (cell-place 1 1 0 0 standing-half 4) ((pos standing-stamp ∷ zeros 3) ++ pair-words (500 at 4000 ∷ (0 at 0 ∷ (200 at 5000 ∷ []))))
+-- From a book whose standing cell of slot 4 has these pairs, as only a host writes it, or an older library left it; the plant's capability is filed.
+abbrev with-held : List Pair → List (List ℕ) → List ℕ → Line → Case
+with-held offer calls call line =
+    record { book = put opened-book (cell-place 1 1 0 0 standing-half 4) ((pos standing-stamp ∷ zeros 3) ++ pair-words offer); before = plant ∷ calls; last = call; answered = line }
 
--- The same cell with −1.0 at 40.00 and 3.0 at 50.00.
-abbrev negative-book : List ℤ
-negative-book =
-    put opened-book (cell-place 1 1 0 0 standing-half 4)
-    ((pos standing-stamp ∷ zeros 3) ++ pair-words (record { price = pos 4000; quantity = negsuc 9 } ∷ (30 at 5000 ∷ [])))
-
--- From the book with the blank, with the plant's capability filed.
+-- 50.0 at 40.00, a blank, 20.0 at 50.00; and −1.0 at 40.00, 3.0 at 50.00.
 abbrev with-middle-blank : List (List ℕ) → List ℕ → Line → Case
-with-middle-blank calls call line = record { book = middle-blank-book; before = plant ∷ calls; last = call; answered = line }
+with-middle-blank = with-held (500 at 4000 ∷ (0 at 0 ∷ (200 at 5000 ∷ [])))
+
+abbrev with-negative : List (List ℕ) → List ℕ → Line → Case
+with-negative = with-held (record { price = pos 4000; quantity = negsuc 9 } ∷ (30 at 5000 ∷ []))
 
 -- Most rows start from the opened book: the calls before, the last call, its answer.
 abbrev row : List (List ℕ) → List ℕ → Line → Case
@@ -362,9 +360,9 @@ cases =
     ∷ noticed (withdrawal ∷ []) 5 (draws 17)
     ∷ noticed (withdrawal ∷ []) 4 passes
     -- "a quantity below 0, which only a damaged book holds, counts as 0" in the gate; "its ten quantities added" in a look-up: −1.0 and 3.0
-    ∷ record { book = negative-book; before = plant ∷ []; last = look-up 4; answered = reads 0 3 20 }
-    ∷ record { book = negative-book; before = plant ∷ (notice 4 4 4 ∷ (clock 56 ∷ [])); last = variation 4 4 (31 at 5000 ∷ []); answered = passes }
-    ∷ record { book = negative-book; before = plant ∷ (notice 4 4 4 ∷ (clock 56 ∷ [])); last = variation 4 4 (30 at 5000 ∷ []); answered = draws 17 }
+    ∷ with-negative [] (look-up 4) (reads 0 3 20)
+    ∷ with-negative (notice 4 4 4 ∷ (clock 56 ∷ [])) (variation 4 4 (31 at 5000 ∷ [])) passes
+    ∷ with-negative (notice 4 4 4 ∷ (clock 56 ∷ [])) (variation 4 4 (30 at 5000 ∷ [])) (draws 17)
     -- 18: another proportion is no duplicate
     ∷ wide (of-all 1 all-marks ∷ (secondary 900 ∷ [])) (secondary 900) (draws 18)
     ∷ wide (of-all 1 all-marks ∷ (secondary 900 ∷ [])) (secondary 899) passes
