@@ -184,9 +184,12 @@ pub accepted_exactly : AcceptedExactly
 unfolding AcceptedExactly
 accepted_exactly w b = (
   λ e. none (none_applies 1 (conditions w b) (omega arith) (sym (number_is_lowest w b) ∙ eqb-true (book_answer w b).number 0 e)),
-  λ f. eq-eqb (book_answer w b).number 0 (number_is_lowest w b ∙ none_drawn 1 (conditions w b) (λ i. unfold applies in f (suc i))),
+  λ f. eq-eqb (book_answer w b).number 0 (number_is_lowest w b ∙ none_drawn 1 (conditions w b) (drawn f)),
 )
   where
+    drawn : ((n : ℕ) → applies w b n ≡ false) → (i : ℕ) → get_or (conditions w b) i false ≡ false
+    drawn f i = unfold applies in f (suc i)
+
     none : ((i : ℕ) → get_or (conditions w b) i false ≡ false) → (n : ℕ) → applies w b n ≡ false
     none f zero = unfold applies in refl
     none f (suc n) = unfold applies in f n

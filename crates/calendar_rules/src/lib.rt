@@ -1,1 +1,2 @@
 // No code: dates and periods (refusal 21) as definitions, and the theorems about them.
+#![tactic(auto)]

@@ -1,4 +1,6 @@
 // What each kind of facility may do, one row for each, as in offer_rules (specs/Kinds): read by 5, 7, 8, 9, 15 and 17.
+#![tactic(auto)]
+
 ghost use Rattle.std.specs.Prelude.{◌≡◌};
 ghost use Rattle.offer_rules.specs.Kinds.{kind_row, is_in, is_kind, may_offer, admits};
 ghost use Rattle.kinds.specs.Meaning.{range_of, row_of};
@@ -27,6 +29,7 @@ pub fn is_in(range: Range, n: u8) -> bool
 }
 
 // "Facility kinds: 1 generation, 2 load"; "A cross-border link becomes facility kind 3".
+#[tactic(auto, unfolding(offer_rules::specs::Kinds::kind_row))]
 fn kind_row(kind: i32) -> Kind
     ensures { row_of result ≡ kind_row kind }
 {

@@ -1,4 +1,4 @@
-// "Then cells of 24 words, numbered ((typeof.f.S + s)·2 + h)·336 + slot, h 0 standing, 1 variation: 0 stamp (0 empty, 1 standing, P + 1 variation),
+// "Then cells of 24 words, numbered ((f·S + s)·2 + h)·336 + slot, h 0 standing, 1 variation: 0 stamp (0 empty, 1 standing, P + 1 variation),
 // 1 proportion, .. 4–23 pairs"; "word 2 becomes ramp up times 10,000 plus ramp down, word 3 the minute" of acceptance.
 use crate::time;
 

@@ -1,4 +1,6 @@
 // Units and time: a slot's next period, for the gate and for C.
+#![tactic(auto)]
+
 ghost use Rattle.std.specs.Prelude.{◌≡◌};
 ghost use Rattle.offer_rules.specs.Time.{slot_of, IsNext, next_period};
 

@@ -1,4 +1,6 @@
 // Prices and quantities as types of their own, signed words as counts, tests and copies of words, and the drawing of a refusal number.
+#![tactic(auto)]
+
 ghost use Rattle.std.specs.Prelude.{◌≡◌, cond, ◌+◌, ◌≤◌, ◌<◌, pos, length, get_or};
 ghost use Rattle.offer_rules.specs.Numbers.{to_nat, eq_z, word, beyond, any_beyond};
 ghost use Rattle.units.specs.Typed.{price_of, quantity_of};
