@@ -1,13 +1,13 @@
 -- A filed offer is equal to a held one exactly where the words of its cell would be, the minute aside.
 use mathlib.Core.Path.{◌≡◌, refl, sym, ap, ◌∙◌}
 use mathlib.Core.Bool.{Bool, true, false, ◌&&◌, and-false, and_assoc, true≢false}
-use mathlib.Core.List.{List, [], ◌∷◌}
+use mathlib.Core.List.{[], ◌∷◌}
 use Prim.Native.Nat.{ℕ, zero, suc, ◌+◌, ◌*◌, ◌/◌, ◌%◌, ◌≤◌}
 use native.Mathlib.Omega.{arith}
 use lib.Dec.{eqb}
 use lib.IntN.{ℤ, pos, negsuc, neg_ℤ}
 use lib.Signed.{quot_z, rem_z}
-use lib.ListN.{length, drop}
+use lib.ListN.{drop}
 use borrow.Author.Tests.{eqb-true, eq-eqb}
 use Rattle.offer_rules.specs.Numbers.{eq_z, word, beyond}
 use Rattle.offer_rules.specs.Offer.{most_ramp}

@@ -1,6 +1,6 @@
 -- Each row of the table of cases, by computing all of them at once.
 use mathlib.Core.Path.{◌≡◌, refl, sym, ◌∙◌, ap, ap₂}
-use mathlib.Core.List.{List, [], ◌∷◌, map}
+use mathlib.Core.List.{List, map}
 use lib.ListN.{get_or, get_or-map}
 use Rattle.cases.specs.Cases.{Line, Case, answer_in, first_case, cases, EveryCase, The451stDiffers, Openings, WordsShown, RampsShown, CellWords, NextPeriods}
 use Rattle.cases.proofs.Computes.{computes}

@@ -1,5 +1,5 @@
 -- Document 01, "Gate": gate closure, refusal 17.
-use Rattle.std.specs.Prelude.{Bool, true, false, cond, not, ◌&&◌, ◌||◌, List, [], ◌∷◌, ℕ, zero, suc, ◌+◌, ◌-◌, min, leb, ltb, eqb, ℤ, pos}
+use Rattle.std.specs.Prelude.{Bool, true, cond, not, ◌&&◌, ◌||◌, List, [], ◌∷◌, ℕ, zero, suc, ◌+◌, ◌-◌, min, leb, ltb, eqb, ℤ, pos}
 use Rattle.std.specs.Int.Signed.{le_z}
 use Rattle.offer_rules.specs.Numbers.{eq_z, to_nat}
 use Rattle.offer_rules.specs.Time.{start_of}
