@@ -1,5 +1,7 @@
 // Gate closure, refusal 17: prices compared tenth by tenth, and the reasons.
 // Offers are lent as their pairs' words: price, quantity, price, quantity ..
+#![tactic(auto)]
+
 ghost use Rattle.std.specs.Prelude.{◌≡◌, true, ◌&&◌, ◌+◌, ◌-◌, ◌*◌, ◌≤◌, ◌<◌, ltb, length, drop};
 ghost use Rattle.offer_rules.specs.Numbers.{to_nat, eq_z};
 ghost use Rattle.offer_rules.specs.Kinds.{admits};
@@ -54,6 +56,7 @@ fn less(n: u64, used: u64) -> u64
 }
 
 // The tenths of a pair that are left after those used.
+#[tactic(auto, unfolding(crate::specs::Merging::left_of))]
 fn left_of(words: &[i32], pair: usize, used: u64) -> u64
     requires { (2 * pair + 1 < length words.now) × (used < 2147483648) }
     ensures { (result ≡ left_of words.now pair used) × (used + result < 2147483648) }
@@ -67,6 +70,7 @@ fn same_price(a: Price, b: Price) -> bool
     a.0 == b.0
 }
 
+#[tactic(auto, unfolding(crate::specs::Merging::alike))]
 fn prices_alike(old: &[i32], i: usize, new: &[i32], j: usize) -> bool
     requires { (2 * i + 1 < length old.now) × (2 * j + 1 < length new.now) }
     ensures { result ≡ alike old.now i new.now j }
@@ -75,6 +79,7 @@ fn prices_alike(old: &[i32], i: usize, new: &[i32], j: usize) -> bool
 }
 
 // Both pairs have tenths left, at two prices.
+#[tactic(auto, unfolding(crate::specs::Merging::differ))]
 fn pairs_differ(a: u64, b: u64, same: bool) -> bool
     ensures { result ≡ differ a b same }
 {
@@ -83,6 +88,7 @@ fn pairs_differ(a: u64, b: u64, same: bool) -> bool
 
 // A step passes the pair with fewer tenths left, a of old's or b of new's, or both where they are as many: an offer that
 // only adds to old is walked through in as many steps as it has pairs.
+#[tactic(auto, unfolding(crate::specs::Merging::merged))]
 fn merge_step(s: Merge, a: u64, b: u64) -> Merge
     requires { (s.old_pair < 9223372036854775808) × (s.new_pair < 9223372036854775808) × (s.old_used + a < 2147483648) × (s.new_used + b < 2147483648) × (s.passed < 9223372036854775808) }
     ensures { result ≡ merged s a b }
@@ -141,6 +147,7 @@ fn first_differing_tenth(old: &[i32], new: &[i32]) -> u64
 }
 
 // "for every n from 1 to the smaller total, the n-th tenth .. has the same price in old and new"
+#[tactic(auto, using(crate::proofs::Runs::none_differs_is_same))]
 fn same_prices(old: &[i32], new: &[i32]) -> bool
     requires { (length old.now ≤ 20) × (length new.now ≤ 20) }
     ensures { result ≡ same_prices (pairs_in old.now) (pairs_in new.now) }
@@ -148,6 +155,7 @@ fn same_prices(old: &[i32], new: &[i32]) -> bool
     first_differing_tenth(old, new) == 0
 }
 
+#[tactic(auto, using(crate::proofs::Words::total_from, crate::proofs::Words::total_at_end))]
 fn total_tenths(pairs: &[i32]) -> u64
     requires { length pairs.now ≤ 20 }
     ensures { (result ≡ total_tenths (pairs_in pairs.now)) × (result ≤ 21474836480) }
@@ -160,6 +168,7 @@ fn total_tenths(pairs: &[i32]) -> u64
     total
 }
 
+#[tactic(auto, unfolding(offer_rules::specs::Gate::covers))]
 fn is_covered(window: Window, period: u64) -> bool
     requires { period < 2147483648 }
     ensures { result ≡ covers (window_of window) period }
@@ -169,6 +178,7 @@ fn is_covered(window: Window, period: u64) -> bool
 }
 
 // "3 service 0"
+#[tactic(auto, unfolding(offer_rules::specs::Gate::admits_service))]
 fn admits_service(service: u8, reason: u8) -> bool
     ensures { result ≡ admits_service service reason }
 {
@@ -179,6 +189,7 @@ fn admits_service(service: u8, reason: u8) -> bool
 }
 
 // What a reason asks of the period.
+#[tactic(auto, unfolding(offer_rules::specs::Gate::period_covered))]
 fn is_period_covered(g: Grounds, period: u64, reason: u8) -> bool
     requires { period < 2147483648 }
     ensures { result ≡ period_covered (grounds_of g) period reason }
@@ -205,6 +216,7 @@ fn has_less(a: &[i32], b: &[i32]) -> bool
 }
 
 // What it asks of the totals of old and new, for which every pair lent is read.
+#[tactic(auto, unfolding(offer_rules::specs::Gate::total_moved))]
 fn is_total_moved(reason: u8, old: &[i32], new: &[i32]) -> bool
     requires { (length old.now ≤ 20) × (length new.now ≤ 20) }
     ensures { result ≡ total_moved reason (total_tenths (pairs_in old.now)) (total_tenths (pairs_in new.now)) }
@@ -241,6 +253,7 @@ fn is_admitted(g: Grounds, service: u8, period: u64, reason: u8) -> bool
 // ---- how far an offer is walked
 
 // How many pairs stand before the first blank.
+#[tactic(auto, using(offer_rules::proofs::Blanks::filled_from, offer_rules::proofs::Blanks::none_left_filled))]
 fn filled_count(pairs: &[i32]) -> usize
     requires { length pairs.now ≡ 20 }
     ensures { (result ≡ length (filled_part (pairs_in pairs.now))) × (result ≤ 10) }
@@ -254,6 +267,7 @@ fn filled_count(pairs: &[i32]) -> usize
 }
 
 // How many pairs there are up to the last that isn't blank; where there are fewer than ten, all.
+#[tactic(auto, using(offer_rules::proofs::Blanks::none_left_blank))]
 fn count_to_last(pairs: &[i32]) -> usize
     requires { length pairs.now ≤ 20 }
     ensures { (2 * result ≤ length pairs.now) × (all_blank (pairs_in (drop (2 * result) pairs.now)) ≡ true) }
