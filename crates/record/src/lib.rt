@@ -1,5 +1,7 @@
 // A record's bytes: its words, the bytes that its call uses, and refusals 2, 3 and 4 of it.
 // The gateway's C program calls bilzhaan_record_test.
+#![tactic(auto)]
+
 ghost use Rattle.std.specs.Prelude.{◌≡◌, ℕ, ◌+◌, ◌*◌, ◌-◌, ◌/◌, ◌%◌, ◌≤◌, ◌<◌, pos, length, drop, ◌&&◌, ◌||◌};
 ghost use Rattle.book_rules.specs.Record.{byte, signed, word_at, words_at, offer_in, capability_in};
 ghost use Rattle.book_rules.specs.Record.{used, is_record, outside, any_stray, has_stray};
