@@ -24,6 +24,7 @@ fn ramp_at(words: &[i32], at: usize) -> Ramp
 }
 
 // "outside 0 to its maximum", or "above 9,999", whatever its maximum
+#[tactic(auto, unfolding(offer_rules::specs::Offer::ramp_beyond))]
 fn is_ramp_beyond(maximum: Ramp, ramp: Ramp) -> bool
     ensures { result ≡ ramp_beyond maximum.0 ramp.0 }
 {
@@ -31,6 +32,7 @@ fn is_ramp_beyond(maximum: Ramp, ramp: Ramp) -> bool
 }
 
 // "energy ramp outside 0 to its maximum"; "also covers a ramp above 9,999"
+#[tactic(auto, unfolding(offer_rules::specs::Offer::ramp_refused))]
 pub fn is_ramp_refused(capability: &[i32], service: u8, offer: &[i32]) -> bool
     requires { (length capability.now ≡ 17) × (length offer.now ≡ 23) }
     ensures { result ≡ ramp_refused capability.now service offer.now }
@@ -69,6 +71,7 @@ fn is_none_or_above(maximum: Proportion, proportion: Proportion) -> bool
 }
 
 // "generation reserve: proportion 0 or above its maximum; load isn't tested"
+#[tactic(auto, unfolding(offer_rules::specs::Offer::proportion_refused))]
 pub fn is_proportion_refused(capability: &[i32], service: u8, offer: &[i32]) -> bool
     requires { (length capability.now ≡ 17) × (service ≤ 4) × (length offer.now ≡ 23) }
     ensures { result ≡ proportion_refused capability.now service offer.now }
@@ -91,6 +94,7 @@ fn is_total_above(maximum: Quantity, total: Sum) -> bool
 }
 
 // "total above generation or combined maximum (energy), or above the service's own"
+#[tactic(auto, unfolding(offer_rules::specs::Offer::above_capacity))]
 pub fn is_above_capacity(capability: &[i32], service: u8, total: Sum) -> bool
     requires { (length capability.now ≡ 17) × (service ≤ 4) }
     ensures { result ≡ above_capacity capability.now service total.0 }

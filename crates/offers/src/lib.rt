@@ -1,5 +1,7 @@
 // The offer rules, refusals 10 to 16 (document 01, "Who draws which number"), below the book.
 // An offer is 23 words (proportion, ramps, ten pairs), a facility's capability 17 words W0 to W16, the price limits 6 words.
+#![tactic(auto)]
+
 ghost use Rattle.std.specs.Prelude.{◌≡◌, ◌≤◌, length};
 ghost use Rattle.offer_rules.specs.Time.{slot_refused, period_refused};
 ghost use Rattle.offer_rules.specs.Offer.{pairs, BlanksLast, offer_number};
@@ -24,6 +26,7 @@ pub fn is_slot_refused(slot: i32) -> bool
 }
 
 // "P begun (30·P ≤ now) or P ≥ 48·(d + 7)". A period below 0 counts as period 0, which starts at minute 0 and has begun.
+#[tactic(auto, using(crate::proofs::Begun::refused_as_count))]
 pub fn is_period_refused(clock: u64, period: i32) -> bool
     ensures { result ≡ period_refused clock period }
 {

@@ -11,7 +11,7 @@ use units::{Price, Quantity, is_beyond, is_blank, is_zero, price_at, quantity_at
 // ---- ten quantities added
 
 // Tenths of a MW, added.
-#[derive(Drop)]
+#[derive(Clone, Copy)]
 pub struct Sum(pub i64);
 
 fn plus(sum: Sum, quantity: Quantity) -> Sum
@@ -42,6 +42,7 @@ pub fn sum_of(pairs: &[i32]) -> i64
 // ---- blank pairs
 
 // A filed offer "whose pairs are all blank": as "all non-blank pairs come first", its first pair tells.
+#[tactic(auto, using(crate::proofs::Pairing::told_by_first))]
 pub fn is_all_blank(offer: &[i32]) -> bool
     requires { (length offer.now ≡ 23) × BlanksLast (pairs offer.now) }
     ensures { result ≡ all_blank (pairs offer.now) }
@@ -78,6 +79,7 @@ pub fn is_out_of_range(lowest: Price, highest: Price, price: Price, quantity: Qu
 }
 
 // 13 "prices of non-blank pairs not strictly rising": `any` says whether there is a price before, and `last` is that price.
+#[tactic(auto, unfolding(crate::specs::PairTests::still_rises))]
 pub fn still_rises(rises: bool, any: bool, last: Price, price: Price) -> bool
     ensures { result ≡ still_rises rises any last price }
 {
@@ -97,6 +99,7 @@ struct Findings {
 }
 
 // One pair more.
+#[tactic(auto, unfolding(crate::specs::PairTests::with_filled))]
 fn with_filled(f: Findings, price: Price, quantity: Quantity) -> Findings
     requires { (nat_abs f.total.0 ≤ 4611686018427387904) × (f.filled ≤ 10) }
     ensures { result ≡ with_filled f price quantity }
@@ -105,7 +108,7 @@ fn with_filled(f: Findings, price: Price, quantity: Quantity) -> Findings
     let total = f.total;
     Findings {
         out_of_range: f.out_of_range,
-        rises: still_rises(f.rises, f.any, last, price),
+        rises: still_rises(f.rises, f.any, last, Price(price.0)),
         any: true,
         last: price,
         total: plus(total, quantity),
@@ -130,7 +133,12 @@ fn walk(
     for i in from..to {
         let price = price_at(pairs, 2 * i);
         let quantity = quantity_at(pairs, 2 * i + 1);
-        if is_out_of_range(lowest, highest, price, quantity) {
+        if is_out_of_range(
+            Price(lowest.0),
+            Price(highest.0),
+            Price(price.0),
+            Quantity(quantity.0),
+        ) {
             return Findings {
                 out_of_range: true,
                 rises: true,
@@ -140,7 +148,7 @@ fn walk(
                 filled: 0,
             };
         }
-        if is_blank(quantity) {
+        if is_blank(Quantity(quantity.0)) {
             return f;
         }
         f = with_filled(f, price, quantity);
@@ -172,11 +180,11 @@ fn findings_in(lowest: Price, highest: Price, service: u8, pairs: &[i32]) -> Fin
         total: Sum(0),
         filled: 0,
     };
-    let five = walk(lowest, highest, none, pairs, 0, 5);
+    let five = walk(Price(lowest.0), Price(highest.0), none, pairs, 0, 5);
     if five.out_of_range | (five.filled < 5) {
         return five;
     }
-    if do_five_suffice(lowest, highest, service) {
+    if do_five_suffice(Price(lowest.0), Price(highest.0), service) {
         return five;
     }
     walk(lowest, highest, five, pairs, 5, 10)
@@ -192,7 +200,7 @@ fn blanks_number(lowest: Price, highest: Price, pairs: &[i32], from: usize) -> u
     for i in from..offer::PAIR_COUNT {
         let price = price_at(pairs, 2 * i);
         let quantity = quantity_at(pairs, 2 * i + 1);
-        if is_out_of_range(lowest, highest, price, quantity) {
+        if is_out_of_range(Price(lowest.0), Price(highest.0), price, quantity) {
             return refusal::OUT_OF_RANGE;
         }
     }
@@ -231,7 +239,7 @@ fn judge_pairs(lowest: Price, highest: Price, service: u8, pairs: &[i32]) -> Jud
     requires { (length pairs.now ≡ 20) × FiveUsed service pairs.now }
     ensures { (result.number ≡ pairs_number lowest highest (pairs_in pairs.now)) × (result.number ≡ 0 → (result.total.0 ≡ sum_of (pairs_in pairs.now)) × BlanksLast (pairs_in pairs.now)) }
 {
-    let f = findings_in(lowest, highest, service, pairs);
+    let f = findings_in(Price(lowest.0), Price(highest.0), service, pairs);
     if f.out_of_range {
         return refused_with(refusal::OUT_OF_RANGE);
     }
