@@ -1,5 +1,7 @@
 // Document 01, "Who draws which number": 5 to 9, from values that the book hands over.
 // A facility's capability is 17 words W0 to W16.
+#![tactic(auto)]
+
 ghost use Rattle.std.specs.Prelude.{◌≡◌, not, ◌&&◌, ◌+◌, ◌/◌, ◌≤◌, ◌<◌, max, pos, length};
 ghost use Rattle.offer_rules.specs.Numbers.{eq_z, to_nat, word, draw, ◌then◌};
 ghost use Rattle.offer_rules.specs.Kinds.{is_in};
@@ -13,6 +15,7 @@ use units::{any_beyond, is_beyond, is_equal, nat};
 // ---- numbers
 
 // The number where a test applies, else 0, which is none.
+#[tactic(auto, unfolding(offer_rules::specs::Numbers::draw))]
 pub fn draw_if(applies: bool, number: u8) -> u8
     ensures { (result ≡ draw applies number) × (result ≤ number) }
 {
@@ -20,6 +23,7 @@ pub fn draw_if(applies: bool, number: u8) -> u8
 }
 
 // "the lowest that applies is returned": a number, or where none is drawn the one drawn after it.
+#[tactic(auto, using(units::proofs::Chains::then_none, units::proofs::Chains::then_drawn))]
 pub fn first_drawn(number: u8, after: u8) -> u8
     ensures { (result ≡ (number then after)) × (result ≤ max number after) }
 {
@@ -39,6 +43,7 @@ fn is_word(words: &[i32], at: usize, value: i32) -> bool
 // ---- 5: the facility's kind
 
 // "facility has kind neither 1 nor 2 in the book", nor 3.
+#[tactic(auto, unfolding(book_rules::specs::Refusals::facility_number, book_rules::specs::Refusals::has_kind))]
 pub fn facility_number(capability: &[i32]) -> u8
     requires { length capability.now ≡ 17 }
     ensures { (result ≡ facility_number capability.now) × (result ≤ 5) }
@@ -49,6 +54,7 @@ pub fn facility_number(capability: &[i32]) -> u8
 // ---- 6: the clock
 
 // "A below now or above 1,000,000,000"
+#[tactic(auto, unfolding(book_rules::specs::Refusals::clock_number))]
 pub fn clock_number(clock: u64, minute: i32) -> u8
     requires { clock ≤ 1000000000 }
     ensures { (result ≡ clock_number clock minute) × (result ≤ 6) }
@@ -63,6 +69,7 @@ pub fn clock_number(clock: u64, minute: i32) -> u8
 // ---- 7: outages, notices and withdrawals
 
 // "outage: not 0 ≤ m ≤ now, or n outside 1–3 (load 1–48)"; a link's always.
+#[tactic(auto, unfolding(book_rules::specs::Refusals::outage_number))]
 pub fn outage_number(clock: u64, capability: &[i32], minute: i32, count: i32) -> u8
     requires { (clock ≤ 1000000000) × (length capability.now ≡ 17) }
     ensures { (result ≡ outage_number clock capability.now minute count) × (result ≤ 7) }
@@ -88,6 +95,7 @@ pub fn outage_last(minute: i32, count: i32) -> i32
 }
 
 // "notice: reason not 3–5, or not 0 ≤ A ≤ B ≤ 40,000,000"
+#[tactic(auto, unfolding(book_rules::specs::Refusals::notice_number))]
 pub fn notice_number(kind: u8, first: i32, last: i32) -> u8
     ensures { (result ≡ notice_number kind first last) × (result ≤ 7) }
 {
@@ -97,6 +105,7 @@ pub fn notice_number(kind: u8, first: i32, last: i32) -> u8
 }
 
 // "withdrawal: reason not 5"
+#[tactic(auto, unfolding(book_rules::specs::Refusals::withdrawal_number))]
 pub fn withdrawal_number(kind: u8) -> u8
     ensures { (result ≡ withdrawal_number kind) × (result ≤ 7) }
 {
@@ -106,6 +115,7 @@ pub fn withdrawal_number(kind: u8) -> u8
 // ---- 8: standing capability data
 
 // "kind not 1 or 2 or unlike a held 1 or 2"; 3 as these.
+#[tactic(auto, unfolding(book_rules::specs::Refusals::has_kind, book_rules::specs::Refusals::kind_refused))]
 pub fn is_kind_refused(held: &[i32], kind: i32) -> bool
     requires { length held.now ≡ 17 }
     ensures { result ≡ kind_refused held.now kind }
@@ -114,6 +124,7 @@ pub fn is_kind_refused(held: &[i32], kind: i32) -> bool
 }
 
 // "W1–W6 outside 0–99,999; W7, W8 outside 0–9,999; W9–W11 outside 0–1,000"
+#[tactic(auto, unfolding(book_rules::specs::Refusals::maxima_refused))]
 fn is_maximum_refused(sent: &[i32]) -> bool
     requires { length sent.now ≡ 17 }
     ensures { result ≡ maxima_refused sent.now }
@@ -148,12 +159,17 @@ fn any_mark_astray(sent: &[i32]) -> bool
     let allowed = marks(sent[facility::KIND]);
     let mut astray = false;
     for s in 0..5 {
+        let allowed = Range {
+            first: allowed.first,
+            last: allowed.last,
+        };
         astray = astray | is_mark_astray(sent, allowed, s);
     }
     astray
 }
 
 // "a mark not 0 or 1; .."
+#[tactic(auto, unfolding(book_rules::specs::Refusals::marks_refused))]
 fn is_mark_refused(sent: &[i32]) -> bool
     requires { length sent.now ≡ 17 }
     ensures { result ≡ marks_refused sent.now }
@@ -161,6 +177,7 @@ fn is_mark_refused(sent: &[i32]) -> bool
     any_beyond(sent, facility::REGISTERED, 5, 0, 1) | any_mark_astray(sent)
 }
 
+#[tactic(auto, unfolding(book_rules::specs::Refusals::capability_number))]
 pub fn capability_number(held: &[i32], sent: &[i32]) -> u8
     requires { (length held.now ≡ 17) × (length sent.now ≡ 17) }
     ensures { (result ≡ capability_number held.now sent.now) × (result ≤ 8) }
@@ -174,6 +191,7 @@ pub fn capability_number(held: &[i32], sent: &[i32]) -> u8
 // ---- 9: registration
 
 // "mark for the service not 1", or a service that the kind may not offer, whatever its marks.
+#[tactic(auto, unfolding(book_rules::specs::Refusals::registration_number))]
 pub fn registration_number(capability: &[i32], service: u8) -> u8
     requires { (length capability.now ≡ 17) × (service ≤ 4) }
     ensures { (result ≡ registration_number capability.now service) × (result ≤ 9) }
