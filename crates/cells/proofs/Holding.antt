@@ -42,15 +42,6 @@ module _ (w : List ℤ) (F S f s : ℕ) (z : Sized w F S) where
   variation_held p at e =
       ap (λ (a : ℕ). held (variation_stamp p) (part a 24 w)) (place_is variation_half (slot_of p) at e) ∙ held_there (variation_stamp p) w at
 
--- A cell that a case names lies in the words.
-pub standing_inside : (x : place.InForce) (at n : ℕ) → x ≡ Standing at → end_of x ≤ n → at + 24 ≤ n
-unfolding end_of
-standing_inside x at n e h = rw e at h
-
-pub variation_inside : (x : place.InForce) (at n : ℕ) → x ≡ Variation at → end_of x ≤ n → at + 24 ≤ n
-unfolding end_of
-variation_inside x at n e h = rw e at h
-
 -- ---- a cell's offer
 
 -- The words of its pairs, as they are lent.

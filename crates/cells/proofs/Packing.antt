@@ -1,4 +1,4 @@
--- Two ramps as one word, and a word as two ramps; an age in 64 bits.
+-- A word as two ramps; an age in 64 bits.
 use mathlib.Core.Path.{◌≡◌, refl, ap₂, ◌∙◌}
 use mathlib.Core.Bool.{false, true≢false}
 use Prim.Native.Nat.{ℕ, zero, suc, ◌/◌, ◌≤◌, ◌<◌}
@@ -18,28 +18,6 @@ use Rattle.units.proofs.Counts.{word_back}
 
 abbrev back : ℤ → ℤ
 back z = to_z w32 (of_z w32 z)
-
-module _ (u d : ℤ) (fu : SFits w32 u) (fd : SFits w32 d) (hu : beyond (pos 0) most_ramp u ≡ false) (hd : beyond (pos 0) most_ramp d ≡ false) where
-  times : (u : ℤ) → beyond (pos 0) most_ramp u ≡ false → SFits w32 (u *ℤ ramp_unit)
-  times (pos u) h = sfits_of (omega (arith, (within _ _ u h).1))
-  times (negsuc u) h = absurd (true≢false h)
-
-  plus : (u d : ℤ) → beyond (pos 0) most_ramp u ≡ false → beyond (pos 0) most_ramp d ≡ false → SFits w32 (packed_ramps u d)
-  plus (pos u) (pos d) h k = sfits_of (omega (arith, (within _ _ u h).1, (within _ _ d k).1))
-  plus (pos u) (negsuc d) h k = absurd (true≢false k)
-  plus (negsuc u) d h k = absurd (true≢false h)
-
-  pub product_fits : SFits w32 (back u *ℤ ramp_unit)
-  product_fits = rw (to_z-of_z {w = w32} fu) (times u hu)
-
-  packed_is : back (back u *ℤ ramp_unit) +ℤ back d ≡ packed_ramps u d
-  packed_is = rw (to_z-of_z {w = w32} fu, to_z-of_z {w = w32} fd, to_z-of_z {w = w32} (times u hu))
-
-  pub packed_fits : SFits w32 (back (back u *ℤ ramp_unit) +ℤ back d)
-  packed_fits = rw packed_is (plus u d hu hd)
-
-  pub packed_back : back (back (back u *ℤ ramp_unit) +ℤ back d) ≡ packed_ramps u d
-  packed_back = to_z-of_z {w = w32} packed_fits ∙ packed_is
 
 -- ---- a word as two ramps
 

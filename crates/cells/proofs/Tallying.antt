@@ -1,4 +1,4 @@
--- Offers in force counted and added facility by facility, in 64 bits.
+-- Offers in force counted and added facility by facility.
 use mathlib.Core.Path.{◌≡◌, refl, sym, ap₂, ◌∙◌, subst}
 use mathlib.Core.List.{List}
 use Prim.Native.Nat.{ℕ, ◌+◌, ◌≤◌}
@@ -24,14 +24,3 @@ sum_more vw s p n = rw add-one
 pub facilities_shown : (w : List ℤ) → (book_view w).facilities ≡ facilities_in w
 unfolding book_view
 facilities_shown w = refl
-
--- Two sums added in 64 bits.
-module _ (a b : ℤ) (ha : nat_abs a ≤ 1374389534720) (hb : nat_abs b ≤ 21474836480) where
-  sum_is : to_z w64 (of_z w64 a) +ℤ to_z w64 (of_z w64 b) ≡ a +ℤ b
-  sum_is = ap₂ ◌+ℤ◌ (to_z-of_z {w = w64} (abs_fits a (omega arith))) (to_z-of_z {w = w64} (abs_fits b (omega arith)))
-
-  pub sum_fits : SFits w64 (to_z w64 (of_z w64 a) +ℤ to_z w64 (of_z w64 b))
-  sum_fits = subst (SFits w64) (sym sum_is) (abs_fits (a +ℤ b) (omega (arith, abs_add a b)))
-
-  pub sum_back : to_z w64 (of_z w64 (to_z w64 (of_z w64 a) +ℤ to_z w64 (of_z w64 b))) ≡ a +ℤ b
-  sum_back = to_z-of_z {w = w64} sum_fits ∙ sum_is

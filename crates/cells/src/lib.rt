@@ -1,5 +1,7 @@
 // The book's words (document 01, "The book's words" and "Offer in force"): places, stores, the offer in force,
 // and what a look-up and a total answer. Each read goes straight to its words; the book is never copied.
+#![tactic(auto)]
+
 ghost use Rattle.std.specs.Prelude.{◌≡◌, true, false, cond, [], ◌∷◌, ◌+◌, ◌≤◌, ◌<◌, pos, nat_abs, ◌+ℤ◌, length, drop};
 ghost use Rattle.std.proofs.Math.Option.{none};
 ghost use Rattle.offer_rules.specs.Numbers.{eq_z, word, beyond};
@@ -190,6 +192,7 @@ pub fn in_force(
     held_standing(book, facilities, services, f, s, slot)
 }
 
+#[tactic(auto, unfolding(crate::specs::Meaning::is_nothing))]
 pub fn is_nothing(offer: InForce) -> bool
     ensures { result ≡ is_nothing offer }
 {
@@ -201,6 +204,7 @@ pub fn is_nothing(offer: InForce) -> bool
 }
 
 // The pairs of an offer in force; none where nothing is in force.
+#[tactic(auto, unfolding(offer_rules::specs::Offer::pairs, offer_rules::specs::Offer::pairs_in, book_rules::specs::Force::pairs_of, crate::specs::Meaning::meaning, crate::specs::Meaning::end_of))]
 pub fn pairs_of(book: &[i32], offer: InForce) -> &[i32]
     requires { end_of offer ≤ length book.now }
     ensures { (pairs_in result.now ≡ pairs_of (meaning book.now offer)) × (length result.now ≤ 20) }
@@ -246,6 +250,7 @@ fn is_same_at(book: &[i32], at: usize, offer: &[i32]) -> bool
     proportion & (ramp_up & (ramp_down & pairs))
 }
 
+#[tactic(auto, unfolding(crate::specs::Meaning::meaning, crate::specs::Meaning::end_of, crate::specs::Meaning::is_same_offer))]
 pub fn is_same_offer(book: &[i32], held: InForce, offer: &[i32]) -> bool
     requires { (end_of held ≤ length book.now) × (length offer.now ≡ 23) }
     ensures { result ≡ is_same_offer (meaning book.now held) offer.now }
@@ -269,6 +274,7 @@ pub struct Answer {
 }
 
 // "Otherwise words and sum are zero."
+#[tactic(auto, unfolding(book_rules::specs::Force::plain))]
 pub fn plain(number: u8) -> Answer
     ensures { answer_of result ≡ plain number }
 {
@@ -280,6 +286,7 @@ pub fn plain(number: u8) -> Answer
 }
 
 // "its ten quantities added", of the cell at a place
+#[tactic(auto, unfolding(offer_rules::specs::Offer::pairs, crate::specs::Meaning::total_quantity))]
 fn total_quantity(book: &[i32], at: usize) -> i64
     requires { at + 24 ≤ length book.now }
     ensures { (result ≡ total_quantity book.now at) × (nat_abs result ≤ 21474836480) }
@@ -331,6 +338,7 @@ fn found_at(book: &[i32], at: usize, clock: u64, fresh: i32, settled: i32) -> An
     }
 }
 
+#[tactic(auto, unfolding(offer_rules::specs::Offer::sum_of, book_rules::specs::Force::found, book_rules::specs::Force::found_words, book_rules::specs::Force::pairs_of, book_rules::specs::Force::plain, crate::specs::Meaning::meaning, crate::specs::Meaning::end_of, crate::specs::Meaning::found_at, crate::specs::Meaning::total_quantity))]
 pub fn look_up(book: &[i32], clock: u64, offer: InForce) -> Answer
     requires { (end_of offer ≤ length book.now) × (clock ≤ 1000000000) }
     ensures { answer_of result ≡ found clock (meaning book.now offer) }
@@ -354,6 +362,7 @@ struct Tally {
 }
 
 // One facility's.
+#[tactic(auto, unfolding(offer_rules::specs::Offer::sum_of, book_rules::specs::Force::counted, book_rules::specs::Force::pairs_of, crate::specs::Meaning::meaning, crate::specs::Meaning::end_of, crate::specs::Meaning::total_quantity))]
 fn tally_of(book: &[i32], offer: InForce) -> Tally
     requires { end_of offer ≤ length book.now }
     ensures { (result.count ≡ counted (meaning book.now offer)) × (result.sum ≡ offered (meaning book.now offer)) × (result.count ≤ 1) × (nat_abs result.sum ≤ 21474836480) }
