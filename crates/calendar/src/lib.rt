@@ -1,4 +1,6 @@
 // Dates and periods, for C: year, month, day and period to P, and P to these. No loop, no table and no book.
+#![tactic(auto)]
+
 ghost use Rattle.std.specs.Prelude.{◌≡◌, true, cond, ◌+◌, ◌-◌, ◌≤◌, ◌<◌};
 ghost use Rattle.offer_rules.specs.Numbers.{to_nat, between};
 ghost use Rattle.offer_rules.specs.Time.{periods_a_day};
