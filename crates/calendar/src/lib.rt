@@ -120,7 +120,7 @@ fn period_of_day(day: u64, period: u64) -> u64
 }
 
 #[repr(C)]
-#[derive(Drop)]
+#[derive(Clone, Copy)]
 pub struct Period {
     pub number: u32,
     pub period: i32,
@@ -192,7 +192,7 @@ fn evened(leap: bool, r: u64) -> u64
     r + 2 - more
 }
 
-#[derive(Drop)]
+#[derive(Clone, Copy)]
 struct MonthDay {
     month: u64,
     day: u64,
@@ -212,7 +212,7 @@ fn month_and_day(leap: bool, r: u64) -> MonthDay
 }
 
 #[repr(C)]
-#[derive(Drop)]
+#[derive(Clone, Copy)]
 pub struct Date {
     pub number: u32,
     pub year: i32,

@@ -16,7 +16,7 @@ use layout::{facility, offer, time};
 use units::{Price, Quantity, is_blank, nat, price_at, quantity_at};
 
 // A merge of two offers: the pair that it has come to in each, that pair's tenths that are passed, and all tenths passed.
-#[derive(Drop)]
+#[derive(Clone, Copy)]
 struct Merge {
     pub old_pair: usize,
     pub old_used: u64,
@@ -26,14 +26,14 @@ struct Merge {
 }
 
 // The periods of an outage or a notice.
-#[derive(Drop)]
+#[derive(Clone, Copy)]
 pub struct Window {
     pub first: i32,
     pub last: i32,
 }
 
 // What a reason is held against: the facility's kind and outage window, and the three notices.
-#[derive(Drop)]
+#[derive(Clone, Copy)]
 pub struct Grounds {
     pub kind: i32,
     pub outage: Window,

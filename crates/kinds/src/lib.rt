@@ -6,13 +6,13 @@ ghost use Rattle.offer_rules.specs.Kinds.{kind_row, is_in, is_kind, may_offer, a
 ghost use Rattle.kinds.specs.Meaning.{range_of, row_of};
 
 // From first to last.
-#[derive(Drop)]
+#[derive(Clone, Copy)]
 pub struct Range {
     pub first: u8,
     pub last: u8,
 }
 
-#[derive(Drop)]
+#[derive(Clone, Copy)]
 struct Kind {
     pub known: bool,
     pub offers: Range,

@@ -13,7 +13,7 @@ use units::{Quantity, is_beyond, is_zero, quantity_at};
 // ---- 14: ramps
 
 // Tenths of a MW per minute.
-#[derive(Drop)]
+#[derive(Clone, Copy)]
 struct Ramp(i32);
 
 fn ramp_at(words: &[i32], at: usize) -> Ramp
@@ -54,7 +54,7 @@ pub fn is_ramp_refused(capability: &[i32], service: u8, offer: &[i32]) -> bool
 // ---- 15: the proportion of generation reserve
 
 // Thousandths.
-#[derive(Drop)]
+#[derive(Clone, Copy)]
 struct Proportion(i32);
 
 fn proportion_at(words: &[i32], at: usize) -> Proportion

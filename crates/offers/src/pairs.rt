@@ -88,7 +88,7 @@ pub fn still_rises(rises: bool, any: bool, last: Price, price: Price) -> bool
 
 // What the pairs before the first blank, or up to some place, have shown: `filled` counts them, `any` says whether there is one, and `last` is the price of the last.
 // Where a pair is out of range, nothing else is told.
-#[derive(Drop)]
+#[derive(Clone, Copy)]
 struct Findings {
     pub out_of_range: bool,
     pub rises: bool,
@@ -108,7 +108,7 @@ fn with_filled(f: Findings, price: Price, quantity: Quantity) -> Findings
     let total = f.total;
     Findings {
         out_of_range: f.out_of_range,
-        rises: still_rises(f.rises, f.any, last, Price(price.0)),
+        rises: still_rises(f.rises, f.any, last, price),
         any: true,
         last: price,
         total: plus(total, quantity),
@@ -133,12 +133,7 @@ fn walk(
     for i in from..to {
         let price = price_at(pairs, 2 * i);
         let quantity = quantity_at(pairs, 2 * i + 1);
-        if is_out_of_range(
-            Price(lowest.0),
-            Price(highest.0),
-            Price(price.0),
-            Quantity(quantity.0),
-        ) {
+        if is_out_of_range(lowest, highest, price, quantity) {
             return Findings {
                 out_of_range: true,
                 rises: true,
@@ -148,7 +143,7 @@ fn walk(
                 filled: 0,
             };
         }
-        if is_blank(Quantity(quantity.0)) {
+        if is_blank(quantity) {
             return f;
         }
         f = with_filled(f, price, quantity);
@@ -180,11 +175,11 @@ fn findings_in(lowest: Price, highest: Price, service: u8, pairs: &[i32]) -> Fin
         total: Sum(0),
         filled: 0,
     };
-    let five = walk(Price(lowest.0), Price(highest.0), none, pairs, 0, 5);
+    let five = walk(lowest, highest, none, pairs, 0, 5);
     if five.out_of_range | (five.filled < 5) {
         return five;
     }
-    if do_five_suffice(Price(lowest.0), Price(highest.0), service) {
+    if do_five_suffice(lowest, highest, service) {
         return five;
     }
     walk(lowest, highest, five, pairs, 5, 10)
@@ -200,7 +195,7 @@ fn blanks_number(lowest: Price, highest: Price, pairs: &[i32], from: usize) -> u
     for i in from..offer::PAIR_COUNT {
         let price = price_at(pairs, 2 * i);
         let quantity = quantity_at(pairs, 2 * i + 1);
-        if is_out_of_range(Price(lowest.0), Price(highest.0), price, quantity) {
+        if is_out_of_range(lowest, highest, price, quantity) {
             return refusal::OUT_OF_RANGE;
         }
     }
@@ -219,7 +214,7 @@ fn used_pairs(service: u8) -> usize
 }
 
 // The number that some pairs draw, 11, 12 or 13; where it is 0, their total.
-#[derive(Drop)]
+#[derive(Clone, Copy)]
 pub struct Judged {
     pub number: u8,
     pub total: Sum,
@@ -239,7 +234,7 @@ fn judge_pairs(lowest: Price, highest: Price, service: u8, pairs: &[i32]) -> Jud
     requires { (length pairs.now ≡ 20) × FiveUsed service pairs.now }
     ensures { (result.number ≡ pairs_number lowest highest (pairs_in pairs.now)) × (result.number ≡ 0 → (result.total.0 ≡ sum_of (pairs_in pairs.now)) × BlanksLast (pairs_in pairs.now)) }
 {
-    let f = findings_in(Price(lowest.0), Price(highest.0), service, pairs);
+    let f = findings_in(lowest, highest, service, pairs);
     if f.out_of_range {
         return refused_with(refusal::OUT_OF_RANGE);
     }

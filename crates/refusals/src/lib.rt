@@ -159,10 +159,6 @@ fn any_mark_astray(sent: &[i32]) -> bool
     let allowed = marks(sent[facility::KIND]);
     let mut astray = false;
     for s in 0..5 {
-        let allowed = Range {
-            first: allowed.first,
-            last: allowed.last,
-        };
         astray = astray | is_mark_astray(sent, allowed, s);
     }
     astray

@@ -6,11 +6,11 @@ ghost use Rattle.offer_rules.specs.Numbers.{to_nat, eq_z, word, beyond, any_beyo
 ghost use Rattle.units.specs.Typed.{price_of, quantity_of};
 
 // Whole cents per MWh.
-#[derive(Drop)]
+#[derive(Clone, Copy)]
 pub struct Price(pub i32);
 
 // Whole tenths of a MW.
-#[derive(Drop)]
+#[derive(Clone, Copy)]
 pub struct Quantity(pub i32);
 
 // "A pair with quantity 0 is blank"

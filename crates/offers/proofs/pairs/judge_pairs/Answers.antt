@@ -1,9 +1,6 @@
 -- Out of range before the first blank; not empty from it on; not rising before it; or none of these.
-use Rattle.std.proofs.Common.{◌≡◌, ℕ, ◌*◌, Bool, true, false, cond, drop, rules, arith, sym, ap, ◌∙◌}
+use Rattle.std.proofs.Common.{◌≡◌, ℕ, ◌*◌, Bool, true, false, cond, drop, arith, sym, ap, ◌∙◌}
 use borrow.Author.Tests.{not-true, not-false}
-use mir.Syntax.{w32}
-use mir.Val.{SFits}
-use mir.Facts.{to_z-of_z}
 use Rattle.offer_rules.specs.Offer.{pairs_in, any_pair}
 use Rattle.offers.specs.PairTests.{pair_is_out, all_empty}
 use Rattle.offers.proofs.Walks.{draws_11, draws_11_or_12, draws_13_or_none, come_first, total_found, unused_empty}
@@ -19,9 +16,7 @@ eleven_or_twelve false z = omega arith
 
 pub returns-then-f : goal.returns-then-f
 returns-then-f c =
-    let l : SFits w32 c.args.lowest.0 = search rules in
-    let h : SFits w32 c.args.highest.0 = search rules in
-    let f = rw (to_z-of_z {w = w32} l, to_z-of_z {w = w32} h) at c.findings_in-f.ensures in
+    let f = c.findings_in-f.ensures in
     let r = c.refused_with in
     (r.ensures ∙ sym (draws_11 c.args.lowest c.args.highest c.args.pairs.now c.findings_in-f.result f c.if-f.true), no_number r.result.number 11 r.ensures (λ z. omega arith))
 
@@ -32,9 +27,7 @@ are_empty-requires c =
 
 pub returns-then-not-are_empty : goal.returns-then-not-are_empty
 returns-then-not-are_empty c =
-    let l : SFits w32 c.args.lowest.0 = search rules in
-    let h : SFits w32 c.args.highest.0 = search rules in
-    let f = rw (to_z-of_z {w = w32} l, to_z-of_z {w = w32} h) at c.findings_in-f.ensures in
+    let f = c.findings_in-f.ensures in
     let filled = c.findings_in-f.result.filled in
     let r = c.refused_with-then-not-are_empty in
     let m : ℕ = cond (any_pair (pair_is_out c.args.lowest c.args.highest) (pairs_in (drop (2 * filled) c.args.pairs.now))) 11 12 in
@@ -46,9 +39,7 @@ returns-then-not-are_empty c =
 
 pub returns-then-not-f : goal.returns-then-not-f
 returns-then-not-f c =
-    let l : SFits w32 c.args.lowest.0 = search rules in
-    let h : SFits w32 c.args.highest.0 = search rules in
-    let f = rw (to_z-of_z {w = w32} l, to_z-of_z {w = w32} h) at c.findings_in-f.ensures in
+    let f = c.findings_in-f.ensures in
     let r = c.refused_with-then-not-f in
     let empty = sym c.are_empty.ensures ∙ c.if-not-are_empty.false in
     let k = draws_13_or_none c.args.lowest c.args.highest c.args.pairs.now c.findings_in-f.result f c.if-f.false empty in
@@ -56,9 +47,7 @@ returns-then-not-f c =
 
 pub returns : goal.returns
 returns c =
-    let l : SFits w32 c.args.lowest.0 = search rules in
-    let h : SFits w32 c.args.highest.0 = search rules in
-    let f = rw (to_z-of_z {w = w32} l, to_z-of_z {w = w32} h) at c.findings_in-f.ensures in
+    let f = c.findings_in-f.ensures in
     let empty = sym c.are_empty.ensures ∙ c.if-not-are_empty.false in
     let k = draws_13_or_none c.args.lowest c.args.highest c.args.pairs.now c.findings_in-f.result f c.if-f.false empty in (
       sym (k ∙ ap (λ (t : Bool). cond {A = ℕ} t 0 13) (not-false c.findings_in-f.result.rises c.if-not-f.false)),
