@@ -141,8 +141,7 @@ fn found_period(year: u64, month: u64, day: u64, period: u64) -> Period
     }
 }
 
-#[unsafe(no_mangle)]
-pub extern "C" fn bilzhaan_period_of(year: i32, month: i32, day: i32, period: i32) -> Period
+pub fn bilzhaan_period_of(year: i32, month: i32, day: i32, period: i32) -> Period
     ensures { period_answer_of result ≡ period_answer year month day period }
 {
     if is_date_and_period(year, month, day, period) {
@@ -241,8 +240,7 @@ fn found_date(p: u64) -> Date
     }
 }
 
-#[unsafe(no_mangle)]
-pub extern "C" fn bilzhaan_date_of(period: i32) -> Date
+pub fn bilzhaan_date_of(period: i32) -> Date
     ensures { date_answer_of result ≡ date_answer period }
 {
     if is_beyond(0, time::LAST_DATED_PERIOD, period) {

@@ -263,8 +263,7 @@ pub fn is_sized(facilities: i32, services: i32) -> bool
 }
 
 // 20 where F or S is wrong, else 2, 3, 4 or 0.
-#[unsafe(no_mangle)]
-pub extern "C" fn bilzhaan_record_test(bytes: &[u8], facilities: i32, services: i32) -> u32
+pub fn bilzhaan_record_test(bytes: &[u8], facilities: i32, services: i32) -> u32
     ensures { result ≡ record_test bytes.now facilities services }
 {
     if !is_sized(facilities, services) {
