@@ -1,5 +1,7 @@
 // The opening of a book, refusal 20, and the test that words are a book, refusal 1.
 // Head, facilities and cells are lent on as parts of the book, and each is written from its start to its end.
+#![tactic(auto)]
+
 ghost use Rattle.std.specs.Prelude.{◌≡◌, ◌&&◌, ◌+◌, ◌*◌, ◌≤◌, leb, length, drop};
 ghost use Rattle.offer_rules.specs.Numbers.{to_nat, zeros};
 ghost use Rattle.book_rules.specs.Record.{sizes_ok};
