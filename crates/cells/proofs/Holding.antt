@@ -3,7 +3,7 @@ use mathlib.Core.Path.{◌≡◌, refl, sym, ap, ap₂, ◌∙◌}
 use mathlib.Core.Bool.{cond}
 use mathlib.Core.List.{List, [], ◌∷◌}
 use mathlib.Core.Option.{Option, none, some}
-use Prim.Native.Nat.{ℕ, ◌+◌, ◌-◌, ◌≤◌}
+use Prim.Native.Nat.{ℕ, ◌+◌, ◌-◌}
 use native.Mathlib.Omega.{arith}
 use native.Mathlib.Nat.{add-zero}
 use lib.IntN.{ℤ, pos}
@@ -15,9 +15,7 @@ use Rattle.offer_rules.specs.Offer.{Held}
 use Rattle.book_rules.specs.Words.{part, cell_place, cell_held, standing_half, variation_half, standing_stamp, variation_stamp}
 use Rattle.book_rules.specs.Book.{facilities_in, services_in, held, book_view}
 use Rattle.book_rules.proofs.Parts.{word_of_part}
-use Rattle.cells.specs.declared.InForce as place
-use Rattle.cells.specs.declared.InForce.TheVariants.{Standing, Variation}
-use Rattle.cells.specs.Meaning.{Sized, held_at, offer_at, end_of}
+use Rattle.cells.specs.Meaning.{Sized, held_at, offer_at}
 
 -- What a place holds, where the word there is the stamp.
 abbrev pub stamped_at : ℕ → List ℤ → ℕ → Option Held

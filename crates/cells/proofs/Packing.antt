@@ -1,18 +1,14 @@
 -- A word as two ramps; an age in 64 bits.
 use mathlib.Core.Path.{◌≡◌, refl, ap₂, ◌∙◌}
-use mathlib.Core.Bool.{false, true≢false}
 use Prim.Native.Nat.{ℕ, zero, suc, ◌/◌, ◌≤◌, ◌<◌}
 use native.Mathlib.Omega.{arith}
-use lib.IntN.{ℤ, pos, negsuc, neg_ℤ, ◌+ℤ◌, ◌-ℤ◌, ◌*ℤ◌, nat_abs}
+use lib.IntN.{ℤ, pos, negsuc, neg_ℤ, ◌-ℤ◌, nat_abs}
 use lib.Signed.{mag, quot_z, rem_z, mag_rem, nat_abs-le}
 use mir.Syntax.{w32, w64}
 use mir.Val.{of_z, to_z, SFits}
 use mir.Facts.{to_z-of_z, to_z_pos, sfits_lit}
 use borrow.Author.Rules.{sfits_of}
-use Rattle.offer_rules.specs.Numbers.{beyond}
-use Rattle.offer_rules.specs.Offer.{most_ramp}
-use Rattle.offer_rules.proofs.Ranges.{within}
-use Rattle.book_rules.specs.Words.{ramp_unit, packed_ramps}
+use Rattle.book_rules.specs.Words.{ramp_unit}
 use Rattle.units.proofs.Adding.{abs_add, abs_fits, cast_fits}
 use Rattle.units.proofs.Counts.{word_back}
 

@@ -1,16 +1,11 @@
 -- Offers in force counted and added facility by facility.
-use mathlib.Core.Path.{◌≡◌, refl, sym, ap₂, ◌∙◌, subst}
+use mathlib.Core.Path.{◌≡◌, refl}
 use mathlib.Core.List.{List}
-use Prim.Native.Nat.{ℕ, ◌+◌, ◌≤◌}
+use Prim.Native.Nat.{ℕ, ◌+◌}
 use native.Mathlib.Numerals.{add-one}
-use native.Mathlib.Omega.{arith}
-use lib.IntN.{ℤ, ◌+ℤ◌, nat_abs}
-use mir.Syntax.{w64}
-use mir.Val.{of_z, to_z, SFits}
-use mir.Facts.{to_z-of_z}
+use lib.IntN.{ℤ, ◌+ℤ◌}
 use Rattle.book_rules.specs.Force.{View, in_force, counted, offered, count_in_force, sum_in_force}
 use Rattle.book_rules.specs.Book.{facilities_in, book_view}
-use Rattle.units.proofs.Adding.{abs_add, abs_fits}
 
 pub count_more : (vw : View) (s p n : ℕ) → count_in_force vw s p (n + 1) ≡ count_in_force vw s p n + counted (in_force vw n s p)
 unfolding count_in_force

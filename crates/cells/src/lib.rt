@@ -119,6 +119,7 @@ pub fn store_offer(
 }
 
 // "Other accepted calls write only the fields they carry."
+#[tactic(auto, using(crate::proofs::Putting::lent_back))]
 pub fn store_words(book: &mut [i32], at: usize, words: &[i32])
     requires { at + length words.now ≤ length book.old }
     ensures { book.new ≡ put book.old at words.now }
@@ -127,6 +128,7 @@ pub fn store_words(book: &mut [i32], at: usize, words: &[i32])
     copy_words(&mut book[at..end], words);
 }
 
+#[tactic(auto, using(crate::proofs::Putting::two_sets))]
 pub fn store_window(book: &mut [i32], at: usize, first: i32, last: i32)
     requires { at + 2 ≤ length book.old }
     ensures { book.new ≡ put book.old at (first ∷ (last ∷ [])) }
@@ -135,6 +137,7 @@ pub fn store_window(book: &mut [i32], at: usize, first: i32, last: i32)
     book[at + 1] = last;
 }
 
+#[tactic(auto, using(crate::proofs::Putting::one_set))]
 pub fn store_word(book: &mut [i32], at: usize, value: i32)
     requires { at < length book.old }
     ensures { book.new ≡ put book.old at (value ∷ []) }
@@ -295,6 +298,7 @@ fn total_quantity(book: &[i32], at: usize) -> i64
 }
 
 // "while now minus that minute is below 5"; in 64 bits, as a damaged minute may be any word.
+#[tactic(auto, using(crate::proofs::Packing::age_back), unfolding(offer_rules::specs::Time::is_fresh))]
 fn is_fresh(clock: u64, minute: i32) -> bool
     requires { clock ≤ 1000000000 }
     ensures { result ≡ is_fresh clock minute }
