@@ -1,5 +1,8 @@
 // The numbers that a call draws over the book's words, from 5 on: each reads its words where they stand.
 // What refusal 1 has tested of the words is asked of them; nothing is written.
+
+#![tactic(auto)]
+
 ghost use Rattle.std.specs.Prelude.{◌≡◌, true, false, ◌+◌, ◌≤◌, ◌<◌, length};
 ghost use Rattle.std.proofs.Math.Option.{none};
 ghost use Rattle.offer_rules.specs.Numbers.{to_nat, word};
@@ -71,6 +74,7 @@ pub fn kind_number(book: &[i32], f: usize) -> u8
 }
 
 // 10 for P.
+#[tactic(auto, unfolding(book_rules::specs::Refusals::period_number))]
 pub fn period_number(book: &[i32], period: i32) -> u8
     requires { Usable book.now }
     ensures { (result ≡ period_number (to_nat (word book.now clock_place)) period) × (result ≤ 10) }
@@ -236,6 +240,17 @@ fn next_period(book: &[i32], slot: usize) -> usize
     next as usize
 }
 
+// The same place again: each function that is given a place takes it.
+fn same_place(held: &InForce) -> InForce
+    ensures { result ≡ held.now }
+{
+    match held {
+        InForce::Nothing => InForce::Nothing,
+        InForce::Standing(at) => InForce::Standing(*at),
+        InForce::Variation(at) => InForce::Variation(*at),
+    }
+}
+
 // 17 of a standing offer over the held one. Before closure, where most are filed, no window and no pair is read.
 fn standing_gate_number(
     book: &[i32],
@@ -278,10 +293,10 @@ fn revision_number(
         wide(service),
         slot,
     );
-    if is_nothing(held) {
+    if is_nothing(same_place(&held)) {
         return 0;
     }
-    let gate = standing_gate_number(book, f, service, slot, reason, held, offer);
+    let gate = standing_gate_number(book, f, service, slot, reason, same_place(&held), offer);
     if gate != 0 {
         return gate;
     }
