@@ -29,8 +29,7 @@ fn tested_number(book: &[i32], bytes: &[u8]) -> u8
 
 // One call, for all words and bytes: 1 to 4, then the call's own. "Byte 5 selects among nine calls"; refusal 2 leaves no other.
 // Each case returns its answer itself: answers that meet in a local are copied from there to the caller's 112 bytes.
-#[unsafe(no_mangle)]
-pub extern "C" fn bilzhaan_call(words: &mut [i32], bytes: &[u8]) -> Answer
+pub fn bilzhaan_call(words: &mut [i32], bytes: &[u8]) -> Answer
     ensures { (answer_of result ≡ book_answer words.old bytes.now) × (words.new ≡ book_after words.old bytes.now) }
 {
     let number = tested_number(words, bytes);
@@ -62,16 +61,14 @@ pub fn call(book: &mut [i32], bytes: &[u8]) -> Answer
 // 1.7.0, for C to hold against its header's.
 const LIBRARY_VERSION: u32 = 10700;
 
-#[unsafe(no_mangle)]
-pub extern "C" fn bilzhaan_version() -> u32
+pub fn bilzhaan_version() -> u32
     ensures { result ≡ library_version }
 {
     LIBRARY_VERSION
 }
 
 // Head word 1 of the books that this library opens and reads.
-#[unsafe(no_mangle)]
-pub extern "C" fn bilzhaan_book_version() -> i32
+pub fn bilzhaan_book_version() -> i32
     ensures { result ≡ book_version }
 {
     head::BOOK_VERSION

@@ -59,7 +59,7 @@ fn write_cell(words: &mut [i32], stamp: u32, minute: u64, offer: &[i32])
 }
 
 // What a held offer has before its pairs, and the minute of its acceptance.
-#[derive(Drop)]
+#[derive(Clone, Copy)]
 struct Terms {
     proportion: i32,
     up: i32,
@@ -148,7 +148,7 @@ pub fn store_word(book: &mut [i32], at: usize, value: i32)
 // ---- the offer in force
 
 // An offer by its cell's place; specs/Meaning says what each case means.
-#[derive(Drop)]
+#[derive(Clone, Copy)]
 pub enum InForce {
     Nothing,
     Standing(usize),
@@ -269,7 +269,7 @@ pub fn is_same_offer(book: &[i32], held: InForce, offer: &[i32]) -> bool
 
 // "Each call returns a number, 24 words and a sum (signed 64-bit)."
 #[repr(C)]
-#[derive(Drop)]
+#[derive(Clone, Copy)]
 pub struct Answer {
     pub number: u32,
     pub words: [i32; 24],
@@ -359,7 +359,7 @@ pub fn look_up(book: &[i32], clock: u64, offer: InForce) -> Answer
 }
 
 // Offers in force: how many, and their quantities added.
-#[derive(Drop)]
+#[derive(Clone, Copy)]
 struct Tally {
     count: u32,
     sum: i64,

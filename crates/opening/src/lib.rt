@@ -149,8 +149,7 @@ pub fn open(book: &mut [i32], facilities: i32, services: i32, limits: [i32; 6]) 
 }
 
 // The opening for C, under C's calling convention.
-#[unsafe(no_mangle)]
-pub extern "C" fn bilzhaan_open(
+pub fn bilzhaan_open(
     words: &mut [i32],
     facilities: i32,
     services: i32,
