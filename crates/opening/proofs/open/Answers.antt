@@ -22,11 +22,11 @@ write_words-requires c =
     let number : n ≡ opening_number a.book.now a.facilities a.services a.limits =
     c.opening_number-number.ensures
     ∙ ap₂ (λ (F S : ℤ). opening_number a.book.now F S a.limits) (to_z-of_z {w = w32} c.ranges.facilities) (to_z-of_z {w = w32} c.ranges.services) in
-    let F-is : c.nat.result ≡ to_nat a.facilities = c.nat.ensures.0 ∙ ap to_nat (to_z-of_z {w = w32} c.ranges.facilities) in
-    let S-is : c.nat-2.result ≡ to_nat a.services = c.nat-2.ensures.0 ∙ ap to_nat (to_z-of_z {w = w32} c.ranges.services) in
+    let facilities_is : c.nat.result ≡ to_nat a.facilities = c.nat.ensures.0 ∙ ap to_nat (to_z-of_z {w = w32} c.ranges.facilities) in
+    let services_is : c.nat-2.result ≡ to_nat a.services = c.nat-2.ensures.0 ∙ ap to_nat (to_z-of_z {w = w32} c.ranges.services) in
     let none : n ≡ 0 = omega arith in
     let fit = opening_fits a.book.now a.facilities a.services a.limits (sym number ∙ none) in
-    (omega (arith, F-is), omega (arith, S-is), omega (arith, ap₂ book_size F-is S-is, fit.1))
+    (omega (arith, facilities_is), omega (arith, services_is), omega (arith, ap₂ book_size facilities_is services_is, fit.1))
 
 pub returns-clause-words : goal.returns-clause-words
 unfolding opening_words
@@ -36,9 +36,9 @@ returns-clause-words c =
     let number : n ≡ opening_number a.book.now a.facilities a.services a.limits =
     c.opening_number-number.ensures
     ∙ ap₂ (λ (F S : ℤ). opening_number a.book.now F S a.limits) (to_z-of_z {w = w32} c.ranges.facilities) (to_z-of_z {w = w32} c.ranges.services) in
-    let F-is : c.nat.result ≡ to_nat a.facilities = c.nat.ensures.0 ∙ ap to_nat (to_z-of_z {w = w32} c.ranges.facilities) in
-    let S-is : c.nat-2.result ≡ to_nat a.services = c.nat-2.ensures.0 ∙ ap to_nat (to_z-of_z {w = w32} c.ranges.services) in
+    let facilities_is : c.nat.result ≡ to_nat a.facilities = c.nat.ensures.0 ∙ ap to_nat (to_z-of_z {w = w32} c.ranges.facilities) in
+    let services_is : c.nat-2.result ≡ to_nat a.services = c.nat-2.ensures.0 ∙ ap to_nat (to_z-of_z {w = w32} c.ranges.services) in
     let none : n ≡ 0 = omega arith in
     let zero : opening_number a.book.now a.facilities a.services a.limits ≡ 0 = sym number ∙ none in
     let w = a.book.now in
-    rw zero (c.write_words.ensures ∙ ap₂ (λ (F S : ℕ). opened F S a.limits (drop (book_size F S) w)) F-is S-is)
+    rw zero (c.write_words.ensures ∙ ap₂ (λ (F S : ℕ). opened F S a.limits (drop (book_size F S) w)) facilities_is services_is)
