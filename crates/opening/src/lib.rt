@@ -149,12 +149,7 @@ pub fn open(book: &mut [i32], facilities: i32, services: i32, limits: [i32; 6]) 
 }
 
 // The opening for C, under C's calling convention.
-pub fn bilzhaan_open(
-    words: &mut [i32],
-    facilities: i32,
-    services: i32,
-    limits: &[i32; 6],
-) -> u32
+pub fn bilzhaan_open(words: &mut [i32], facilities: i32, services: i32, limits: &[i32; 6]) -> u32
     ensures number { result ≡ opening_number words.old facilities services limits.now }
     ensures words { words.new ≡ opening_words words.old facilities services limits.now }
 {

@@ -1,4 +1,6 @@
 // The two calls that read (8 and 9), on a book that passes 1 by a record that passes 2, 3 and 4: "Calls 8 and 9 write none."
+#![tactic(auto)]
+
 ghost use Rattle.std.specs.Prelude.{◌≡◌, ◌<◌};
 ghost use Rattle.book_rules.specs.Record.{call_of, service_of};
 ghost use Rattle.book_rules.specs.Book.{services_in, book_answer};
