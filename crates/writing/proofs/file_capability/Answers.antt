@@ -1,4 +1,4 @@
-use Rattle.std.proofs.Common.{arith, ◌≡◌, refl, sym, ◌∙◌, ap, ap₂, ℕ, ◌+◌}
+use Rattle.std.proofs.Common.{arith, refl, sym, ◌∙◌, ap, ap₂, ℕ, ◌+◌}
 use Rattle.book_rules.specs.Words.{part, put, facility_place}
 use Rattle.book_rules.specs.Refusals.{capability_number}
 use Rattle.book_rules.specs.Book.{book_view}

@@ -1,4 +1,4 @@
-use Rattle.std.proofs.Common.{rules, arith, sym, ◌∙◌, ap, ℕ, List, ℤ, cond, nat_eq}
+use Rattle.std.proofs.Common.{rules, sym, ◌∙◌, ap, ℕ, List, ℤ, cond, nat_eq}
 use Rattle.offer_rules.specs.Numbers.{any_beyond}
 use Rattle.offer_rules.specs.Time.{slot_of}
 use Rattle.offer_rules.specs.Offer.{accepted_at}

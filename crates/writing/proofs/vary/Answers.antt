@@ -1,4 +1,4 @@
-use Rattle.std.proofs.Common.{arith, ◌≡◌, refl, sym, ◌∙◌, ap, ◌<◌, to_z-of_z, w32}
+use Rattle.std.proofs.Common.{arith, ◌≡◌, refl, sym, ◌∙◌, ap, to_z-of_z, w32}
 use mathlib.Core.Logic.{inr}
 use borrow.Author.Rules.{sfits_of}
 use borrow.Author.Tests.{ne_eqb}
