@@ -1,5 +1,7 @@
 // The seven calls that write (1 to 7), on a book that passes 1 by a record that passes 2, 3 and 4.
 // Each returns its number and writes nothing, or returns 0 and writes what it files.
+#![tactic(auto)]
+
 ghost use Rattle.std.specs.Prelude.{◌≡◌, true, cond, ◌≤◌, ◌<◌, eqb, length};
 ghost use Rattle.offer_rules.specs.Numbers.{to_nat, word};
 ghost use Rattle.offer_rules.specs.Time.{slot_refused, period_refused};
