@@ -1,4 +1,6 @@
 // The book: one call on lent words by a record's bytes. `bilzhaan_call` asks nothing of either; the functions it uses ask what it has tested.
+#![tactic(auto)]
+
 ghost use Rattle.std.specs.Prelude.{◌≡◌};
 ghost use Rattle.book_rules.specs.Book.{book_answer, book_after};
 ghost use Rattle.cells.specs.Meaning.{answer_of};
