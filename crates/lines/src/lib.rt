@@ -1,13 +1,17 @@
 // Answers as lines of text (specs/Text): numbers in decimal, a negative one with a minus sign, parted by one space.
-// What is written to a file descriptor can't be promised; the text that is lent to the writing is.
-ghost use Rattle.std.specs.Prelude.{◌≡◌, [], ◌∷◌, ◌++◌, ◌+◌, ◌*◌, ◌≤◌, ◌<◌, nat_abs, length, drop};
+// What a file or a terminal gets can't be promised. The text that is lent to the writing is, and what a writer holds that says which bytes it holds.
+#![tactic(auto)]
+
+ghost use Rattle.std.specs.Prelude.{◌≡◌, [], ◌∷◌, ◌++◌, ◌+◌, ◌*◌, ◌≤◌, ◌<◌, nat_abs, length, take, drop, OnOk};
 ghost use Rattle.std.specs.Int.Signed.{mag};
+ghost use Rattle.std.specs.Io.KnownBytes.{Appends, Consumes};
 ghost use Rattle.io.specs.Counts.{IsPrefixLen};
 ghost use Rattle.offer_rules.specs.Numbers.{word};
 ghost use Rattle.cells.specs.Meaning.{answer_of};
 ghost use Rattle.lines.specs.Text.{space, decimal, signed_decimal, spaced, text, line, whole, Put};
 
 use cells::Answer;
+use std::io::{Read, Write};
 
 fn put_byte(out: &mut [u8], at: usize, byte: u8) -> usize
     requires { at < length out.old }
@@ -24,7 +28,7 @@ fn put_decimal(out: &mut [u8], at: usize, n: u64) -> usize
     let mut text = [0u8; 20];
     let digits = io::decimal(n, &mut text);
     let end = at + digits;
-    bytes::copy(&text[..digits], &mut out[at..end]);
+    out[at..end].copy_from_slice(&text[..digits]);
     end
 }
 
@@ -123,15 +127,37 @@ pub fn whole_text(out: &mut [u8; 512], answer: Answer) -> usize
     put_numbers(out, answer.number, &words, answer.sum)
 }
 
-// Writes an answer's line to a file descriptor; false where a write fails.
-pub fn print_line(fd: i32, answer: Answer) -> bool {
-    let mut text = [0u8; 64];
-    let end = line_text(&mut text, answer);
-    io::write_all(fd, &text[..end])
+// Reads until the bytes are full, the input ends or a read fails, and returns how many were put at their start.
+pub fn read_full<R: Read>(input: &mut R, bytes: &mut [u8]) -> usize
+    ensures prefix_len { IsPrefixLen result bytes.new }
+    ensures taken { Consumes (R.remaining input.old) (R.remaining input.new) (take result bytes.new) }
+{
+    let mut done = 0;
+    while done < bytes.len() {
+        let n = input.read(&mut bytes[done..]).unwrap_or(0);
+        if n == 0 {
+            break;
+        }
+        done += n;
+    }
+    done
 }
 
-pub fn print_whole(fd: i32, answer: Answer) -> bool {
+// Writes an answer's line, which is out when this returns; an error where a write fails.
+pub fn print_line<W: Write>(out: &mut W, answer: Answer) -> std::io::Result<()>
+    ensures { OnOk result (Appends (W.contents out.old) (W.contents out.new) (line (answer_of answer))) }
+{
+    let mut text = [0u8; 64];
+    let end = line_text(&mut text, answer);
+    out.write_all(&text[..end])?;
+    out.flush()
+}
+
+pub fn print_whole<W: Write>(out: &mut W, answer: Answer) -> std::io::Result<()>
+    ensures { OnOk result (Appends (W.contents out.old) (W.contents out.new) (whole (answer_of answer))) }
+{
     let mut text = [0u8; 512];
     let end = whole_text(&mut text, answer);
-    io::write_all(fd, &text[..end])
+    out.write_all(&text[..end])?;
+    out.flush()
 }
