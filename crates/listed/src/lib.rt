@@ -1,5 +1,7 @@
 // A list of records in one go: a book is opened in lent words, the records are called on it one after another, and their answers written.
 // Demand 3, as the promise of a function: the answers are the list machine's.
+#![tactic(auto)]
+
 ghost use Rattle.std.specs.Prelude.{◌≡◌, [], ◌∷◌, ◌++◌, ◌*◌, ◌≤◌, min, pos, length, drop};
 ghost use Rattle.book_rules.specs.Book.{book_answer, book_after, book_answers, book_run};
 ghost use Rattle.listed.specs.ListAnswered.{chopped, numbers_of, flat, ListAnswered};
@@ -12,7 +14,7 @@ use opening::open;
 const NUMBERS: usize = 26;
 
 // The opening's number, and how many records are answered.
-#[derive(Drop)]
+#[derive(Clone, Copy)]
 pub struct Listed {
     pub number: u32,
     pub count: usize,
