@@ -1,34 +1,37 @@
 // Document 01's program: records from standard input to its end, and for each its number, word 0 and sum.
 // Each answer is written before the next record is read.
+#![tactic(auto)]
+
 use book::call;
 use layout::fields;
-use libc::{STDIN_FILENO, STDOUT_FILENO};
-use lines::print_line;
+use lines::{print_line, read_full};
 use opening::open;
+use std::io::{Read, Write};
 
 // One record, and whether to go on: a short one is the last, and a write that fails ends the run.
-fn step(words: &mut [i32]) -> bool {
+fn step<R: Read, W: Write>(input: &mut R, output: &mut W, words: &mut [i32]) -> bool {
     let mut bytes = [0u8; fields::BYTES];
-    let n = io::read_full(STDIN_FILENO, &mut bytes);
+    let n = read_full(input, &mut bytes);
     if n == 0 {
         return false;
     }
-    let written = print_line(STDOUT_FILENO, call(words, &bytes[..n]));
-    written & (n == fields::BYTES)
+    let written = print_line(output, call(words, &bytes[..n]));
+    written.is_ok() & (n == fields::BYTES)
 }
 
-// The loop counts down from a number of turns that no run uses up.
-fn run(words: &mut [i32]) {
-    let mut turns = u64::MAX;
-    while turns > 0 && step(words) {
-        turns -= 1;
+// The loop has a number of turns that no run uses up.
+fn run<R: Read, W: Write>(input: &mut R, output: &mut W, words: &mut [i32]) {
+    for _ in 0..u64::MAX {
+        if !step(input, output, words) {
+            break;
+        }
     }
 }
 
 // "a book of 16,224 words, all zero before opening, F 1, S 1, energy −4,500.00 to 4,500.00, others to 4,500.00"
-fn main() {
+fn main(rt: HostRuntime) {
     let mut words = [0i32; 16224];
     let limits = [-450000, 450000, 450000, 450000, 450000, 450000];
     open(&mut words, 1, 1, limits);
-    run(&mut words);
+    run(&mut rt.stdin(), &mut rt.stdout(), &mut words);
 }

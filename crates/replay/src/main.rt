@@ -1,45 +1,67 @@
 // Replays lists of records from standard input, each on a book that is opened for it, and prints every answer whole.
 // A list is nine words, most significant byte first: F, S, six limits, the number of records; then each record as its length and its bytes.
+#![tactic(auto)]
+
 use book::call;
-use libc::{STDIN_FILENO, STDOUT_FILENO};
-use lines::print_whole;
+use lines::{print_whole, read_full};
 use opening::open;
 use record::word_at;
+use std::io::{Read, Write};
 use units::nat;
 
 // A record as long as what is lent for it, and whether the input goes on.
-fn replay_record(words: &mut [i32], bytes: &mut [u8]) -> bool {
-    let n = io::read_full(STDIN_FILENO, bytes);
+fn replay_record<R: Read, W: Write>(
+    input: &mut R,
+    output: &mut W,
+    words: &mut [i32],
+    bytes: &mut [u8],
+) -> bool {
+    let n = read_full(input, bytes);
     if n < bytes.len() {
         return false;
     }
-    print_whole(STDOUT_FILENO, call(words, bytes))
+    print_whole(output, call(words, bytes)).is_ok()
 }
 
-fn replay_first(words: &mut [i32], bytes: &mut [u8], length: usize) -> bool {
+fn replay_first<R: Read, W: Write>(
+    input: &mut R,
+    output: &mut W,
+    words: &mut [i32],
+    bytes: &mut [u8],
+    length: usize,
+) -> bool {
     if bytes.len() < length {
         return false;
     }
-    replay_record(words, &mut bytes[..length])
+    replay_record(input, output, words, &mut bytes[..length])
 }
 
 // One record, and whether the input goes on.
-fn step(words: &mut [i32]) -> bool {
+fn step<R: Read, W: Write>(input: &mut R, output: &mut W, words: &mut [i32]) -> bool {
     let mut size = [0u8; 4];
-    if io::read_full(STDIN_FILENO, &mut size) < 4 {
+    if read_full(input, &mut size) < 4 {
         return false;
     }
     let mut bytes = [0u8; 256];
-    replay_first(words, &mut bytes, nat(word_at(&size, 0)) as usize)
+    replay_first(
+        input,
+        output,
+        words,
+        &mut bytes,
+        nat(word_at(&size, 0)) as usize,
+    )
 }
 
-fn records(words: &mut [i32], count: u64) -> bool {
-    let mut left = count;
-    while left > 0 {
-        if !step(words) {
+fn records<R: Read, W: Write>(
+    input: &mut R,
+    output: &mut W,
+    words: &mut [i32],
+    count: u64,
+) -> bool {
+    for _ in 0..count {
+        if !step(input, output, words) {
             return false;
         }
-        left -= 1;
     }
     true
 }
@@ -52,9 +74,9 @@ fn forget(words: &mut [i32]) {
 }
 
 // One list, and whether the input goes on. A book that can't be opened answers 1 to every record.
-fn list(words: &mut [i32]) -> bool {
+fn list<R: Read, W: Write>(input: &mut R, output: &mut W, words: &mut [i32]) -> bool {
     let mut head = [0u8; 36];
-    if io::read_full(STDIN_FILENO, &mut head) < 36 {
+    if read_full(input, &mut head) < 36 {
         return false;
     }
     let limits = [
@@ -67,18 +89,20 @@ fn list(words: &mut [i32]) -> bool {
     ];
     forget(words);
     open(words, word_at(&head, 0), word_at(&head, 4), limits);
-    records(words, nat(word_at(&head, 32)))
+    records(input, output, words, nat(word_at(&head, 32)))
 }
 
-fn run(words: &mut [i32]) {
-    let mut turns = u64::MAX;
-    while turns > 0 && list(words) {
-        turns -= 1;
+// The loop has a number of turns that no run uses up.
+fn run<R: Read, W: Write>(input: &mut R, output: &mut W, words: &mut [i32]) {
+    for _ in 0..u64::MAX {
+        if !list(input, output, words) {
+            break;
+        }
     }
 }
 
 // Room for 19 facilities of one service, or 4 of five.
-fn main() {
+fn main(rt: HostRuntime) {
     let mut words = [0i32; 322752];
-    run(&mut words);
+    run(&mut rt.stdin(), &mut rt.stdout(), &mut words);
 }
