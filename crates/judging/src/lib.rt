@@ -240,17 +240,6 @@ fn next_period(book: &[i32], slot: usize) -> usize
     next as usize
 }
 
-// The same place again: each function that is given a place takes it.
-fn same_place(held: &InForce) -> InForce
-    ensures { result ≡ held.now }
-{
-    match held {
-        InForce::Nothing => InForce::Nothing,
-        InForce::Standing(at) => InForce::Standing(*at),
-        InForce::Variation(at) => InForce::Variation(*at),
-    }
-}
-
 // 17 of a standing offer over the held one. Before closure, where most are filed, no window and no pair is read.
 fn standing_gate_number(
     book: &[i32],
@@ -293,10 +282,10 @@ fn revision_number(
         wide(service),
         slot,
     );
-    if is_nothing(same_place(&held)) {
+    if is_nothing(held) {
         return 0;
     }
-    let gate = standing_gate_number(book, f, service, slot, reason, same_place(&held), offer);
+    let gate = standing_gate_number(book, f, service, slot, reason, held, offer);
     if gate != 0 {
         return gate;
     }
