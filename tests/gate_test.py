@@ -31,7 +31,8 @@ def ignore_no_signal():
 
 
 SCRIPTS = sorted(set(re.findall(r"\b(?:tools|tests)/\w+\.(?:py|sh)\b", read(GATE))))
-STEPS = ["rt fmt --check"] + SCRIPTS
+STEPS = SCRIPTS
+OK = "rt: ok; handles allowed: none; must-fail edits: 60 refused"
 CLOSING = "44 passed, 0 failed"
 
 # A stand-in says that it ran, prints a count as the tests do, and does what the file 'acts' has for it.
@@ -43,6 +44,7 @@ echo "$name" >>'{room}/ran'
 act=$(sed -n "s|^$name: ||p" '{room}/acts')
 [ "$act" != "no count" ] || exit 0
 echo "something of $name"
+if [ "$name" = "rt ci" ] && [ "$act" != "not ok" ]; then echo "{ok}$([ "$act" != bad ] || echo ", 1 bad"); every proof and must-fail edit was done in this run"; fi
 if [ "$act" = fail ]; then echo "43 passed, 1 failed"; else echo "{closing}"; fi
 case $act in
 fail | "fail unsaid") exit 1 ;;
@@ -61,9 +63,9 @@ class Gate(unittest.TestCase):
         shutil.copy(GATE, self.path(".ci", "run"))
         self.write("README.md", "Kit: `the kit`\n")
         self.write("bin/python3", '#!/bin/sh\nexec sh "$@"\n')
-        self.write("bin/rt", STAND_IN.format(name="rt", room=self.room, closing=CLOSING))
+        self.write("bin/rt", STAND_IN.format(name="rt", room=self.room, closing=CLOSING, ok=OK))
         for name in SCRIPTS:
-            self.write(name, STAND_IN.format(name=name, room=self.room, closing=CLOSING))
+            self.write(name, STAND_IN.format(name=name, room=self.room, closing=CLOSING, ok=OK))
 
     def write(self, name, text):
         with open(self.path(name), "w") as f:
@@ -118,7 +120,7 @@ class Gate(unittest.TestCase):
         self.assertEqual(self.ran(), ["rt ci"])
 
     def test_no_test_runs_where_rt_ci_ends_otherwise(self):
-        for act in ("fail unsaid", "be killed", "no count"):
+        for act in ("fail unsaid", "be killed", "no count", "not ok", "bad"):
             with self.subTest(act):
                 self.assert_not_passed(*self.ended(self.start({"rt ci": act})))
                 self.assertEqual(self.ran(), ["rt ci"])

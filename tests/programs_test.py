@@ -1,7 +1,7 @@
 """The two programs, run: document 01's on its worked run and on vectors, and the replay of whole lists; and the command that
 proves the first and runs it, with a stand-in for the prover.
 
-Run after `rt ci` or `rt check offer_book replay`, which build them into target/bin/."""
+Run after `rt ci`, or `rt run` in crates/offer_book and in crates/replay, which build them into the crate's out/."""
 import os
 import subprocess
 import tempfile
@@ -9,8 +9,8 @@ import unittest
 
 HERE = os.path.dirname(os.path.abspath(__file__))
 ROOT = os.path.dirname(HERE)
-OFFER_BOOK = os.path.join(ROOT, "target", "bin", "offer_book")
-REPLAY = os.path.join(ROOT, "target", "bin", "replay")
+OFFER_BOOK = os.path.join(ROOT, "crates", "offer_book", "out", "offer_book")
+REPLAY = os.path.join(ROOT, "crates", "replay", "out", "replay")
 VECTORS = os.path.join(HERE, "vectors")
 
 
@@ -61,7 +61,7 @@ class WorkedRun(unittest.TestCase):
         self.assertEqual((ended.returncode, ended.stdout), (0, read(ROOT, "samples", "worked-run.txt")))
         self.assertEqual(ended.stderr.count(b"\n"), 1)
         log = read(ROOT, "target", "worked-run.log").splitlines()
-        self.assertEqual((log[0], len(log), log[-1]), (b"prover: check offer_book", 372, b"last word"))
+        self.assertEqual((log[0], len(log), log[-1]), (b"prover: run", 372, b"last word"))
 
     def test_a_proof_that_fails_is_shown_and_nothing_is_answered(self):
         ended = self.after(3)
