@@ -84,8 +84,8 @@ outside b F S = (uses b 6 && leb F (facility_of b)) || (uses b 7 && leb S (servi
 
 -- 4 "an unused byte not zero"
 unfoldable pub any_stray : (ℕ → Bool) → ℕ → List ℕ → Bool
-any_stray is-used i [] = false
-any_stray is-used i (x ∷ l) = (not (eqb x 0) && not (is-used i)) || any_stray is-used (suc i) l
+any_stray is_used i [] = false
+any_stray is_used i (x ∷ l) = (not (eqb x 0) && not (is_used i)) || any_stray is_used (suc i) l
 
 unfoldable pub has_stray : List ℕ → Bool
 has_stray b = any_stray (used (call_of b) (service_of b)) 6 (drop 6 b)

@@ -170,7 +170,7 @@ cases =
     -- "second pair 30.0 passes; .. 45.0 and 30.0: 17, the 451st tenth differs."
     ∷ row (shut_for plant) (variation 4 4 (500 at 4000 ∷ (300 at 5000 ∷ []))) passes
     ∷ row (shut_for plant) (variation 4 4 (450 at 4000 ∷ (300 at 5000 ∷ []))) (draws 17)
-    -- Taken back before closure: the look_up then answers the standing offer, and 19 where there is none.
+    -- Taken back before closure: the look-up then answers the standing offer, and 19 where there is none.
     ∷ row both (blank 0) passes
     ∷ row (both ++ (blank 0 ∷ [])) (look_up 4) (reads 0 3 700)
     ∷ row (varied ++ (blank 0 ∷ [])) (look_up 4) (draws 19)
@@ -198,7 +198,7 @@ cases =
     ∷ row (shut_for link) (variation 4 2 (500 at 4000 ∷ (300 at 5000 ∷ []))) (draws 17)
     ∷ record { book = damaged_link opened_book; before = clock 56 ∷ []; last = variation 4 2 (300 at 4000 ∷ []); answered = draws 17 }
     ∷ record { book = damaged_link opened_book; before = clock 56 ∷ []; last = variation 4 6 (300 at 4000 ∷ []); answered = draws 17 }
-    -- "It offers energy only: refusal 9 also covers its offers for services 1 to 4", where a damaged book has the mark too; a look_up draws 19
+    -- "It offers energy only: refusal 9 also covers its offers for services 1 to 4", where a damaged book has the mark too; a look-up draws 19
     ∷ row (link ∷ (stands ∷ [])) (look_up 4) (reads 0 3 700)
     ∷ record { book = wide_book; before = link ∷ []; last = standing_for 1 4 (100 at 4000 ∷ []); answered = draws 9 }
     ∷ record { book = damaged_link wide_book; before = []; last = standing_for 1 4 (100 at 4000 ∷ []); answered = draws 9 }
@@ -354,7 +354,7 @@ cases =
     ∷ noticed [] 5 passes
     ∷ noticed (withdrawal ∷ []) 5 (draws 17)
     ∷ noticed (withdrawal ∷ []) 4 passes
-    -- "a quantity below 0, which only a damaged book holds, counts as 0" in the gate; "its ten quantities added" in a look_up: −1.0 and 3.0
+    -- "a quantity below 0, which only a damaged book holds, counts as 0" in the gate; "its ten quantities added" in a look-up: −1.0 and 3.0
     ∷ with_negative [] (look_up 4) (reads 0 3 20)
     ∷ with_negative (notice 4 4 4 ∷ (clock 56 ∷ [])) (variation 4 4 (31 at 5000 ∷ [])) passes
     ∷ with_negative (notice 4 4 4 ∷ (clock 56 ∷ [])) (variation 4 4 (30 at 5000 ∷ [])) (draws 17)
@@ -386,7 +386,7 @@ Openings = (opening_of 16224 (pos 1) (pos 0) 10000000 ≡ 0) × (opening_of 1622
     × (opening_of 16224 (pos 1) (pos 1) 10000000 ≡ 20) × (opening_of 16224 (pos 1) (negsuc 9999999) 0 ≡ 0) × (opening_of 16224 (pos 1) (negsuc 10000000) 0 ≡ 20)
     × (opening_of 16224 (pos 0) (pos 0) 0 ≡ 20) × (opening_of 16224 (pos 5) (pos 0) 0 ≡ 20)
 
--- Words 1 to 23 of a look_up, "what its call carried": ramps and pairs of an energy offer, the proportion of a load's for reserve.
+-- Words 1 to 23 of a look-up, "what its call carried": ramps and pairs of an energy offer, the proportion of a load's for reserve.
 abbrev words_shown : List ℤ → List (List ℕ) → List ℕ → List ℤ
 words_shown w before call = drop 1 (book_answer (book_run w before) call).words
 
@@ -394,7 +394,7 @@ unfoldable pub WordsShown : Type 0
 WordsShown = (words_shown damaged_maximum (ramping 7 stands ∷ []) (look_up 4) ≡ pos 0 ∷ (pos 7 ∷ (pos 0 ∷ (pair_words (500 at 4000 ∷ (200 at 5000 ∷ [])) ++ zeros 16))))
     × (words_shown wide_book (of_all 2 reserve_marks ∷ (with_proportion 5 (standing_for 1 4 []) ∷ [])) (look_up_for 1 4) ≡ pos 5 ∷ zeros 22)
 
--- Words 2 and 3 of a look_up of period 4: "quotient and remainder rounded toward zero" of −12,345.
+-- Words 2 and 3 of a look-up of period 4: "quotient and remainder rounded toward zero" of −12,345.
 unfoldable pub RampsShown : Type 0
 RampsShown = part 2 2 (book_answer (book_run (damaged_cell (negsuc 12344) (pos 0)) (plant ∷ [])) (look_up 4)).words ≡ negsuc 0 ∷ (negsuc 2344 ∷ [])
 

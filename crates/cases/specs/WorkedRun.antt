@@ -5,8 +5,8 @@ use Rattle.book_rules.specs.ListMachine.{list_answers}
 use Rattle.cases.specs.Records.{◌at◌, clock, capability, standing, variation, look_up, total}
 use Rattle.cases.specs.Cases.{limits, opened_book, Line, line_of, reads}
 
--- "capability (kind 1, W1 1,300, W2 800, W12 1); standing slot 4 (500 at 4,000 cents, 200 at 5,000); look_up 4; variation 4 (300 at 4,000);
--- look_up 4; total 4; look_up 340; clock 1,440; look_up 340"
+-- "capability (kind 1, W1 1,300, W2 800, W12 1); standing slot 4 (500 at 4,000 cents, 200 at 5,000); look-up 4; variation 4 (300 at 4,000);
+-- look-up 4; total 4; look-up 340; clock 1,440; look-up 340"
 abbrev pub records : List (List ℕ)
 records =
     capability 1300 800

@@ -40,7 +40,7 @@ module _ (w : List ℤ) (b : List ℕ) (t : Tested w b) (admission rest : ℕ) (
 
 -- 5, 9 and 10 of the offer that a record carries.
 abbrev pub admission_of : List ℤ → List ℕ → Bool → ℕ
-admission_of w b is-refused = admission_number (part (facility_place (facility_of b)) 17 w) (service_of b) is-refused
+admission_of w b is_refused = admission_number (part (facility_place (facility_of b)) 17 w) (service_of b) is_refused
 
 module _ (w : List ℤ) (b : List ℕ) where
   pub standing_parts : call_of b ≡ 3

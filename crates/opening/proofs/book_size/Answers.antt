@@ -3,7 +3,7 @@ use native.Mathlib.Nat.{mul-le-mul}
 use Rattle.book_rules.specs.Words.{book_size}
 use Rattle.opening.proofs.book_size.Goals as goal
 
--- F-as-S is at most 64·5
+-- F·S is at most 64·5
 most : (f s : ℕ) → f ≤ 64 → s ≤ 5 → f * s ≤ 320
 most f s h k = mul-le-mul {n₁ = f} {m₁ = s} {n₂ = 64} {m₂ = 5} h k
 
