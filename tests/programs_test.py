@@ -45,16 +45,21 @@ class WorkedRun(unittest.TestCase):
     """tools/worked-run.sh: the answers last on the screen, and none where the proof fails."""
 
     def after(self, status):
-        """What it ends with where the prover says much and ends with this status."""
+        """What it ends with where the prover reads its input to the end, says much and ends with this status. The caller's input has no end, as a terminal."""
         with tempfile.TemporaryDirectory() as folder:
             rt = os.path.join(folder, "rt")
             with open(rt, "w") as f:
-                f.write('#!/bin/sh\necho "prover: $*"\nseq 370\necho "last word" >&2\nexit %d\n' % status)
+                f.write('#!/bin/sh\ncat >/dev/null\necho "prover: $*"\nseq 370\necho "last word" >&2\nexit %d\n' % status)
             os.chmod(rt, 0o755)
             environment = dict(os.environ, PATH=folder + os.pathsep + os.environ["PATH"])
-            return subprocess.run(
-                [os.path.join(ROOT, "tools", "worked-run.sh")], env=environment, stdout=subprocess.PIPE, stderr=subprocess.PIPE, timeout=60
-            )
+            idle, held = os.pipe()
+            try:
+                return subprocess.run(
+                    [os.path.join(ROOT, "tools", "worked-run.sh")], env=environment, stdin=idle, stdout=subprocess.PIPE, stderr=subprocess.PIPE, timeout=60
+                )
+            finally:
+                os.close(idle)
+                os.close(held)
 
     def test_the_answers_are_last_and_the_provers_words_in_the_log(self):
         ended = self.after(0)

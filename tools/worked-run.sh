@@ -9,7 +9,7 @@ mkdir -p target/bin
 log=target/worked-run.log
 echo "proving offer_book and what it stands on, some minutes the first time on two cores" >&2
 status=0
-(cd crates/offer_book && rt run) >"$log" 2>&1 || status=$?
+(cd crates/offer_book && rt run </dev/null) >"$log" 2>&1 || status=$?
 if [ "$status" -ne 0 ]; then
     cat "$log" >&2
     echo "offer_book is not proved" >&2
