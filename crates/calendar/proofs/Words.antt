@@ -1,11 +1,12 @@
 -- Words tested as they are, and as counts.
 use mathlib.Core.Path.{◌≡◌, refl}
-use mathlib.Core.Bool.{Bool, true, false, ◌||◌, and-false}
+use mathlib.Core.Bool.{Bool, true, false, ◌&&◌, ◌||◌, and-false}
 use Prim.Native.Nat.{ℕ, ◌≤◌}
 use native.Mathlib.Omega.{arith}
 use lib.Dec.{leb, ltb}
 use lib.IntN.{ℤ, pos, negsuc}
-use borrow.Author.Tests.{ltb-true, lt-leb}
+use lib.Signed.{lt_z}
+use borrow.Author.Tests.{ltb-true, le-leb, lt-leb}
 use Rattle.offer_rules.specs.Numbers.{to_nat, between, beyond}
 use Rattle.offer_rules.proofs.Ranges.{between_low, between_high, is_between, within}
 
@@ -30,3 +31,15 @@ day_to_28 most z h e =
     let l = between_low 1 28 (to_nat z) b in
     let k = between_high 1 28 (to_nat z) b in
     is_between 1 most (to_nat z) l (omega arith)
+
+pub day_from_29 : (most : ℕ) (z : ℤ) → beyond (pos 1) (pos 28) z ≡ true → (lt_z (pos 28) z && leb (to_nat z) most) ≡ between 1 most (to_nat z)
+day_from_29 most (pos n) e = go (ltb 28 n) refl
+  where
+    go : (t : Bool) → ltb 28 n ≡ t → (t && leb n most) ≡ between 1 most n
+    go true f = let k = ltb-true 28 n f in rw (le-leb 1 n (omega arith))
+    go false f = low (ltb n 1) refl e
+      where
+        low : (u : Bool) → ltb n 1 ≡ u → (u || ltb 28 n) ≡ true → false ≡ between 1 most n
+        low true g i = rw (lt-leb 1 n (ltb-true n 1 g))
+        low false g i = let z : ◌≡◌ {A = ℕ} 0 1 = cc (i, f) in absurd (omega arith)
+day_from_29 most (negsuc n) e = refl

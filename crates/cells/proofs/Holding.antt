@@ -3,7 +3,7 @@ use mathlib.Core.Path.{◌≡◌, refl, sym, ap, ap₂, ◌∙◌}
 use mathlib.Core.Bool.{cond}
 use mathlib.Core.List.{List, [], ◌∷◌}
 use mathlib.Core.Option.{Option, none, some}
-use Prim.Native.Nat.{ℕ, ◌+◌, ◌-◌}
+use Prim.Native.Nat.{ℕ, ◌+◌, ◌-◌, ◌≤◌}
 use native.Mathlib.Omega.{arith}
 use native.Mathlib.Nat.{add-zero}
 use lib.IntN.{ℤ, pos}
@@ -15,7 +15,9 @@ use Rattle.offer_rules.specs.Offer.{Held}
 use Rattle.book_rules.specs.Words.{part, cell_place, cell_held, standing_half, variation_half, standing_stamp, variation_stamp}
 use Rattle.book_rules.specs.Book.{facilities_in, services_in, held, book_view}
 use Rattle.book_rules.proofs.Parts.{word_of_part}
-use Rattle.cells.specs.Meaning.{Sized, held_at, offer_at}
+use Rattle.cells.specs.declared.InForce as place
+use Rattle.cells.specs.declared.InForce.TheVariants.{Standing, Variation}
+use Rattle.cells.specs.Meaning.{Sized, held_at, offer_at, end_of}
 
 -- What a place holds, where the word there is the stamp.
 abbrev pub stamped_at : ℕ → List ℤ → ℕ → Option Held
@@ -39,6 +41,15 @@ module _ (w : List ℤ) (F S f s : ℕ) (z : Sized w F S) where
   unfolding book_view
   variation_held p at e =
       ap (λ (a : ℕ). held (variation_stamp p) (part a 24 w)) (place_is variation_half (slot_of p) at e) ∙ held_there (variation_stamp p) w at
+
+-- A cell that a case names lies in the words.
+pub standing_inside : (x : place.InForce) (at n : ℕ) → x ≡ Standing at → end_of x ≤ n → at + 24 ≤ n
+unfolding end_of
+standing_inside x at n e h = rw e at h
+
+pub variation_inside : (x : place.InForce) (at n : ℕ) → x ≡ Variation at → end_of x ≤ n → at + 24 ≤ n
+unfolding end_of
+variation_inside x at n e h = rw e at h
 
 -- ---- a cell's offer
 

@@ -1,19 +1,45 @@
--- A word as two ramps; an age in 64 bits.
+-- Two ramps as one word, and a word as two ramps; an age in 64 bits.
 use mathlib.Core.Path.{◌≡◌, refl, ap₂, ◌∙◌}
+use mathlib.Core.Bool.{false, true≢false}
 use Prim.Native.Nat.{ℕ, zero, suc, ◌/◌, ◌≤◌, ◌<◌}
 use native.Mathlib.Omega.{arith}
-use lib.IntN.{ℤ, pos, negsuc, neg_ℤ, ◌-ℤ◌, nat_abs}
+use lib.IntN.{ℤ, pos, negsuc, neg_ℤ, ◌+ℤ◌, ◌-ℤ◌, ◌*ℤ◌, nat_abs}
 use lib.Signed.{mag, quot_z, rem_z, mag_rem, nat_abs-le}
 use mir.Syntax.{w32, w64}
 use mir.Val.{of_z, to_z, SFits}
 use mir.Facts.{to_z-of_z, to_z_pos, sfits_lit}
 use borrow.Author.Rules.{sfits_of}
-use Rattle.book_rules.specs.Words.{ramp_unit}
+use Rattle.offer_rules.specs.Numbers.{beyond}
+use Rattle.offer_rules.specs.Offer.{most_ramp}
+use Rattle.offer_rules.proofs.Ranges.{within}
+use Rattle.book_rules.specs.Words.{ramp_unit, packed_ramps}
 use Rattle.units.proofs.Adding.{abs_add, abs_fits, cast_fits}
 use Rattle.units.proofs.Counts.{word_back}
 
 abbrev back : ℤ → ℤ
 back z = to_z w32 (of_z w32 z)
+
+module _ (u d : ℤ) (fu : SFits w32 u) (fd : SFits w32 d) (hu : beyond (pos 0) most_ramp u ≡ false) (hd : beyond (pos 0) most_ramp d ≡ false) where
+  times : (u : ℤ) → beyond (pos 0) most_ramp u ≡ false → SFits w32 (u *ℤ ramp_unit)
+  times (pos u) h = sfits_of (omega (arith, (within _ _ u h).1))
+  times (negsuc u) h = absurd (true≢false h)
+
+  plus : (u d : ℤ) → beyond (pos 0) most_ramp u ≡ false → beyond (pos 0) most_ramp d ≡ false → SFits w32 (packed_ramps u d)
+  plus (pos u) (pos d) h k = sfits_of (omega (arith, (within _ _ u h).1, (within _ _ d k).1))
+  plus (pos u) (negsuc d) h k = absurd (true≢false k)
+  plus (negsuc u) d h k = absurd (true≢false h)
+
+  pub product_fits : SFits w32 (back u *ℤ ramp_unit)
+  product_fits = rw (to_z-of_z {w = w32} fu) (times u hu)
+
+  packed_is : back (back u *ℤ ramp_unit) +ℤ back d ≡ packed_ramps u d
+  packed_is = rw (to_z-of_z {w = w32} fu, to_z-of_z {w = w32} fd, to_z-of_z {w = w32} (times u hu))
+
+  pub packed_fits : SFits w32 (back (back u *ℤ ramp_unit) +ℤ back d)
+  packed_fits = rw packed_is (plus u d hu hd)
+
+  pub packed_back : back (back (back u *ℤ ramp_unit) +ℤ back d) ≡ packed_ramps u d
+  packed_back = to_z-of_z {w = w32} packed_fits ∙ packed_is
 
 -- ---- a word as two ramps
 

@@ -1,11 +1,11 @@
 -- Words put into a book, as the code puts them: by a part that was lent and given back, or one by one.
-use mathlib.Core.Path.{◌≡◌, ap, ◌∙◌}
+use mathlib.Core.Path.{◌≡◌, refl, ap, ◌∙◌}
 use mathlib.Core.List.{List, [], ◌∷◌, ◌++◌, append_assoc, append-nil}
 use Prim.Native.Nat.{ℕ, ◌+◌, ◌-◌, ◌≤◌, ◌<◌}
 use native.Mathlib.Numerals.{add-one}
 use native.Mathlib.Omega.{arith}
 use lib.IntN.{ℤ}
-use lib.ListN.{length, take, drop, set, length-drop}
+use lib.ListN.{length, take, drop, set, length-set, length-drop}
 use lib.Seq.{drop-drop, drop-length, sets-eq, set_split, take_all}
 use borrow.Rule.Slice.PartMut.{put_mid}
 use Rattle.book_rules.specs.Words.{put}
@@ -21,6 +21,9 @@ lent_back w c a e h =
 module _ (s p r m : ℤ) where
   abbrev pub four_set : List ℤ → List ℤ
   four_set w = set (set (set (set w 0 s) 1 p) 2 r) 3 m
+
+  pub length_four_set : (w : List ℤ) → length (four_set w) ≡ length w
+  length_four_set w = simp length-set refl
 
   four_then_lent : (w c : List ℤ) → length w ≡ 24 → put_mid 4 20 (four_set w) c ≡ s ∷ (p ∷ (r ∷ (m ∷ c)))
   four_then_lent [] c h = absurd (omega arith)
