@@ -5,8 +5,8 @@ use Prim.Native.Nat.{ℕ, ◌+◌, ◌-◌, ◌≤◌, ◌<◌}
 use native.Mathlib.Numerals.{add-one}
 use native.Mathlib.Omega.{arith}
 use lib.IntN.{ℤ}
-use lib.ListN.{length, take, drop, set, length-set, length-drop}
-use lib.Seq.{drop-drop, drop-length, sets-eq, set_split, take_all}
+use lib.ListN.{length, take, drop, set, length-set}
+use lib.Seq.{drop-drop, drop-length, sets-eq, set_split}
 use borrow.Rule.Slice.PartMut.{put_mid}
 use Rattle.book_rules.specs.Words.{put}
 
@@ -45,7 +45,3 @@ one_set w a x h = rw add-one (set_split w a x h)
 pub two_sets : (w : List ℤ) (a : ℕ) (x y : ℤ) → a + 2 ≤ length w → set (set w a x) (a + 1) y ≡ put w a (x ∷ (y ∷ []))
 unfolding put
 two_sets w a x y h = rw add-one (sets-eq (x ∷ (y ∷ [])) w a h ∙ append_assoc (take a w) (x ∷ (y ∷ [])) (drop (a + 2) w))
-
--- An offer's words from word 3 on, lent.
-pub words_lent : (o : List ℤ) → take (length o - 3) (drop 3 o) ≡ drop 3 o
-words_lent o = take_all (length o - 3) (drop 3 o) (omega (arith, length-drop 3 o))

@@ -4,7 +4,7 @@ use Rattle.offer_rules.specs.Offer.{proportion, ramp_up, ramp_down}
 use Rattle.book_rules.specs.Words.{cell_held}
 use Rattle.book_rules.specs.Refusals.{equal_words}
 use Rattle.cells.specs.Meaning.{held_at, offer_at}
-use Rattle.cells.proofs.Putting.{words_lent}
+use Rattle.offers.proofs.Pairing.{words_lent}
 use Rattle.cells.proofs.WordByWord.{equal_in_parts}
 use Rattle.cells.proofs.is_same_at.Goals as goal
 

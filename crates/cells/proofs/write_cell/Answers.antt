@@ -5,7 +5,8 @@ use Rattle.offer_rules.specs.Numbers.{word}
 use Rattle.book_rules.specs.Words.{packed_ramps, cell}
 use Rattle.book_rules.proofs.Cells.{each_fits}
 use Rattle.units.proofs.Counts.{word_back}
-use Rattle.cells.proofs.Putting.{cell_written, words_lent}
+use Rattle.offers.proofs.Pairing.{words_lent}
+use Rattle.cells.proofs.Putting.{cell_written}
 use Rattle.cells.proofs.write_cell.Goals as goal
 
 pub packed_ramps-requires : goal.packed_ramps-requires

@@ -10,7 +10,8 @@ use Rattle.book_rules.specs.Book.{book_view}
 use Rattle.book_rules.proofs.Calls.{judge_look_up, reply_look_up}
 use Rattle.cells.specs.Meaning.{answer_of}
 use Rattle.judging.proofs.Answering.{refused, read}
-use Rattle.reading.proofs.Periods.{period_is, period_bounded}
+use Rattle.units.proofs.Counts.{handed_on}
+use Rattle.reading.proofs.Periods.{period_bounded}
 use Rattle.reading.proofs.LookUpNumber.{refused_before, as_in_force, nothing_number, something_number}
 use Rattle.reading.proofs.look_up_call.Goals as goal
 
@@ -20,16 +21,16 @@ first_number w b = facility_number (part (facility_place (facility_of b)) 17 w) 
 
 drawn_first : (w : List ℤ) (b : List ℕ) {f k p n : ℕ} {x z : ℤ} → f ≡ facility_of b → SFits w32 x → x ≡ period_word b → z ≡ to_z w32 (of_z w32 x)
     → k ≡ facility_number (part (facility_place f) 17 w) → p ≡ period_number (to_nat (word w clock_place)) z → n ≡ (k then p) → n ≡ first_number w b
-drawn_first w b ef fits ex ez ek ep en = rw (en, ek, ep, ef, ez, period_is fits ex) refl
+drawn_first w b ef fits ex ez ek ep en = rw (en, ek, ep, ef, ez, handed_on fits ex) refl
 
 -- With neither 5 nor 10 drawn, 19 is left, and goes by the offer that the code found, which is the one in force.
 drawn_last : (w : List ℤ) (b : List ℕ) {f s p n : ℕ} {x : InForce} → call_of b ≡ 8 → n ≡ first_number w b → n ≡ 0
     → f ≡ facility_of b → s ≡ service_of b → p ≡ to_nat (period_word b) → x ≡ in_force (book_view w) f s p
     → (judge (book_view w) b ≡ force_number x) × (x ≡ in_force (book_view w) (facility_of b) (service_of b) (to_nat (period_word b)))
 unfolding book_view
-drawn_last w b {f} {s} {p} {n} {x} e number z ef es ep ex =
-    let is : x ≡ in_force (book_view w) (facility_of b) (service_of b) (to_nat (period_word b)) = rw (ex, ef, es, ep) refl in
-    (judge_look_up (book_view w) b e ∙ as_in_force (book_view w) (facility_of b) (service_of b) (period_word b) (sym number ∙ z) x is, is)
+drawn_last w b e number z ef es ep ex =
+    let is = ex ∙ rw (ef, es, ep) refl in
+    (judge_look_up (book_view w) b e ∙ as_in_force (book_view w) (facility_of b) (service_of b) (period_word b) (sym number ∙ z) _ is, is)
 
 pub returns-then-number-ne0 : goal.returns-then-number-ne0
 unfolding book_view
@@ -49,7 +50,7 @@ in_force-x-requires c =
     let b = c.args.bytes.now in
     let fits : SFits w32 c.word_at-period.result = search rules in
     let number = drawn_first w b c.wide-f.ensures fits c.word_at-period.ensures refl c.kind_number.ensures.0 c.period_number.ensures.0 c.first_drawn-number.ensures.0 in
-    let count = c.nat.ensures.0 ∙ ap to_nat (period_is fits c.word_at-period.ensures) in
+    let count = c.nat.ensures.0 ∙ ap to_nat (handed_on fits c.word_at-period.ensures) in
     let z = (then_zero _ _ (sym number ∙ c.if-number-ne0.false)).1 in
     let h = period_bounded (to_nat (word w clock_place)) (period_word b) c.requires.tested.usable.timely z in
     (rw (c.facilities.ensures, c.services.ensures) c.requires.tested.usable.sized, search rules, search rules, omega (arith, h, count))
@@ -60,7 +61,7 @@ returns-then-is_nothing c =
     let b = c.args.bytes.now in
     let fits : SFits w32 c.word_at-period.result = search rules in
     let number = drawn_first w b c.wide-f.ensures fits c.word_at-period.ensures refl c.kind_number.ensures.0 c.period_number.ensures.0 c.first_drawn-number.ensures.0 in
-    let count = c.nat.ensures.0 ∙ ap to_nat (period_is fits c.word_at-period.ensures) in
+    let count = c.nat.ensures.0 ∙ ap to_nat (handed_on fits c.word_at-period.ensures) in
     let last = drawn_last w b c.requires.call_is number c.if-number-ne0.false c.wide-f.ensures c.wide-service.ensures count c.in_force-x.ensures.0 in
     let e = nothing_number w c.in_force-x.result (sym c.is_nothing.ensures ∙ c.if-is_nothing.true) in
     c.plain-then-is_nothing.ensures ∙ (refused w b c.requires.tested 19 (last.0 ∙ e) (λ q. omega arith)).0
@@ -72,7 +73,7 @@ returns c =
     let b = c.args.bytes.now in
     let fits : SFits w32 c.word_at-period.result = search rules in
     let number = drawn_first w b c.wide-f.ensures fits c.word_at-period.ensures refl c.kind_number.ensures.0 c.period_number.ensures.0 c.first_drawn-number.ensures.0 in
-    let count = c.nat.ensures.0 ∙ ap to_nat (period_is fits c.word_at-period.ensures) in
+    let count = c.nat.ensures.0 ∙ ap to_nat (handed_on fits c.word_at-period.ensures) in
     let last = drawn_last w b c.requires.call_is number c.if-number-ne0.false c.wide-f.ensures c.wide-service.ensures count c.in_force-x.ensures.0 in
     let e = something_number w c.in_force-x.result (sym c.is_nothing.ensures ∙ c.if-is_nothing.false) in
     read w b c.requires.tested (answer_of c.look_up.result) (last.0 ∙ e) (c.look_up.ensures ∙ ap₂ found c.clock.ensures.0 last.1 ∙ sym (reply_look_up (book_view w) b c.requires.call_is))
