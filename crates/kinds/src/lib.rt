@@ -3,18 +3,51 @@
 
 ghost use Rattle.std.specs.Prelude.{◌≡◌};
 ghost use Rattle.offer_rules.specs.Kinds.{kind_row, is_in, is_kind, may_offer, admits};
-ghost use Rattle.kinds.specs.Meaning.{range_of, row_of};
+ghost use Rattle.kinds.specs.Meaning.{kind_in, range_of, row_of};
 
-// From first to last.
-#[derive(Clone, Copy)]
+use layout::Refusal;
+
+// "Facility kinds: 1 generation, 2 load"; "A cross-border link becomes facility kind 3".
+#[derive(Clone, Copy, Debug, PartialEq, Eq)]
+pub enum Kind {
+    Generation = 1,
+    Load = 2,
+    Link = 3,
+}
+
+// 5 of any other word.
+impl TryFrom<i32> for Kind {
+    type Error = Refusal;
+
+    ghost try_from_gives = { λ word r. r ≡ kind_in word };
+
+    fn try_from(word: i32) -> Result<Kind, Refusal> {
+        match word {
+            1 => Ok(Kind::Generation),
+            2 => Ok(Kind::Load),
+            3 => Ok(Kind::Link),
+            _ => Err(Refusal::NoKind),
+        }
+    }
+}
+
+// From first to last; copied, which std's RangeInclusive, an iterator, isn't.
+#[derive(Clone, Copy, Debug, PartialEq, Eq)]
 pub struct Range {
     pub first: u8,
     pub last: u8,
 }
 
-#[derive(Clone, Copy)]
-struct Kind {
-    pub known: bool,
+impl Range {
+    pub fn contains(self, n: u8) -> bool
+        ensures { result ≡ is_in (range_of self) n }
+    {
+        (self.first..=self.last).contains(&n)
+    }
+}
+
+#[derive(Clone, Copy, Debug, PartialEq, Eq)]
+pub struct Row {
     pub offers: Range,
     pub marks: Range,
     pub reasons: Range,
@@ -22,39 +55,27 @@ struct Kind {
     pub proportion_tested: bool,
 }
 
-pub fn is_in(range: Range, n: u8) -> bool
-    ensures { result ≡ is_in (range_of range) n }
-{
-    (range.first <= n) & (n <= range.last)
-}
-
-// "Facility kinds: 1 generation, 2 load"; "A cross-border link becomes facility kind 3".
+// The row of a facility's word W0.
 #[tactic(auto, unfolding(offer_rules::specs::Kinds::kind_row))]
-fn kind_row(kind: i32) -> Kind
-    ensures { row_of result ≡ kind_row kind }
+pub fn kind_row(word: i32) -> Row
+    ensures { row_of (is_kind word) result ≡ kind_row word }
 {
-    match kind {
-        // generation
-        1 => Kind {
-            known: true,
+    match Kind::try_from(word) {
+        Ok(Kind::Generation) => Row {
             offers: Range { first: 0, last: 4 },
             marks: Range { first: 0, last: 4 },
             reasons: Range { first: 1, last: 5 },
             longest_outage: 3,
             proportion_tested: true,
         },
-        // load
-        2 => Kind {
-            known: true,
+        Ok(Kind::Load) => Row {
             offers: Range { first: 0, last: 4 },
             marks: Range { first: 1, last: 3 },
             reasons: Range { first: 3, last: 6 },
             longest_outage: 48,
             proportion_tested: false,
         },
-        // link
-        3 => Kind {
-            known: true,
+        Ok(Kind::Link) => Row {
             offers: Range { first: 0, last: 0 },
             marks: Range { first: 0, last: 0 },
             reasons: Range { first: 3, last: 5 }, // "1, 2 and 6 are not"
@@ -62,8 +83,7 @@ fn kind_row(kind: i32) -> Kind
             proportion_tested: false,
         },
         // no kind: what is asked of any kind; calls draw 5 of it, or in call 2 the kind's own 8
-        _ => Kind {
-            known: false,
+        Err(_) => Row {
             offers: Range { first: 0, last: 4 },
             marks: Range { first: 1, last: 0 },
             reasons: Range { first: 3, last: 5 },
@@ -74,24 +94,25 @@ fn kind_row(kind: i32) -> Kind
 }
 
 // 5 and 8.
+#[tactic(auto, unfolding(offer_rules::specs::Kinds::kind_row))]
 pub fn is_kind(kind: i32) -> bool
     ensures { result ≡ is_kind kind }
 {
-    kind_row(kind).known
+    Kind::try_from(kind).is_ok()
 }
 
 // 9.
 pub fn may_offer(kind: i32, service: u8) -> bool
     ensures { result ≡ may_offer kind service }
 {
-    is_in(kind_row(kind).offers, service)
+    kind_row(kind).offers.contains(service)
 }
 
 // 17.
 pub fn admits(kind: i32, reason: u8) -> bool
     ensures { result ≡ admits kind reason }
 {
-    is_in(kind_row(kind).reasons, reason)
+    kind_row(kind).reasons.contains(reason)
 }
 
 // 8: the services for which it may be registered.

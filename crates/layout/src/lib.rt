@@ -10,3 +10,5 @@ pub mod head;
 pub mod offer;
 pub mod refusal;
 pub mod time;
+
+pub use refusal::{Refusal, drawn, refuse_if};

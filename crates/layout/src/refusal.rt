@@ -1,64 +1,96 @@
-// Document 01, "Who draws which number", and document 02's number beside them.
+// Document 01, "Who draws which number", and document 02's number beside them: what a call is refused for.
+ghost use Rattle.std.specs.Prelude.{◌≡◌};
+ghost use Rattle.offer_rules.specs.Numbers.{draw};
+ghost use Rattle.layout.specs.Refusal.{number, drawn};
 
-// "fewer than 64 words, mark or version wrong, F not 1 to 64, S not 1 or 5, fewer than N words, or clock outside 0 to 1,000,000,000"
-pub const BOOK_UNUSABLE: u8 = 1;
+#[derive(Clone, Copy, Debug, PartialEq, Eq)]
+pub enum Refusal {
+    // "fewer than 64 words, mark or version wrong, F not 1 to 64, S not 1 or 5, fewer than N words, or clock outside 0 to 1,000,000,000"
+    BookUnusable = 1,
 
-// "not 112 bytes, or mark, version or call wrong"
-pub const NOT_A_RECORD: u8 = 2;
+    // "not 112 bytes, or mark, version or call wrong"
+    NotARecord = 2,
 
-// "facility ≥ F or service ≥ S, where used"
-pub const NOT_IN_BOOK: u8 = 3;
+    // "facility ≥ F or service ≥ S, where used"
+    NotInBook = 3,
 
-// "an unused byte not zero"
-pub const UNUSED_BYTE: u8 = 4;
+    // "an unused byte not zero"
+    UnusedByte = 4,
 
-// "facility has kind neither 1 nor 2 in the book", nor 3
-pub const NO_KIND: u8 = 5;
+    // "facility has kind neither 1 nor 2 in the book", nor 3
+    NoKind = 5,
 
-// "A below now or above 1,000,000,000"
-pub const CLOCK_REFUSED: u8 = 6;
+    // "A below now or above 1,000,000,000"
+    Clock = 6,
 
-// "outage: ..; notice: ..; withdrawal: .."
-pub const NOTICE_REFUSED: u8 = 7;
+    // "outage: ..; notice: ..; withdrawal: .."
+    Notice = 7,
 
-// "capability: .."
-pub const CAPABILITY_REFUSED: u8 = 8;
+    // "capability: .."
+    Capability = 8,
 
-// "mark for the service not 1", or a link's offer for another than energy
-pub const NOT_REGISTERED: u8 = 9;
+    // "mark for the service not 1", or a link's offer for another than energy
+    NotRegistered = 9,
 
-// "slot outside 0–335; P begun (30·P ≤ now) or P ≥ 48·(d + 7)"
-pub const PERIOD_REFUSED: u8 = 10;
+    // "slot outside 0–335; P begun (30·P ≤ now) or P ≥ 48·(d + 7)"
+    Period = 10,
 
-// "reason above 6, quantity outside 0–99,999, price outside its limits"
-pub const OUT_OF_RANGE: u8 = 11;
+    // "reason above 6, quantity outside 0–99,999, price outside its limits"
+    OutOfRange = 11,
 
-// "blank pair with a price", or one that "stands before a non-blank one"
-pub const BLANK_REFUSED: u8 = 12;
+    // "blank pair with a price", or one that "stands before a non-blank one"
+    Blank = 12,
 
-// "prices of non-blank pairs not strictly rising"
-pub const PRICES_DONT_RISE: u8 = 13;
+    // "prices of non-blank pairs not strictly rising"
+    PricesDontRise = 13,
 
-// "energy ramp outside 0 to its maximum"; "also covers a ramp above 9,999"
-pub const RAMP_REFUSED: u8 = 14;
+    // "energy ramp outside 0 to its maximum"; "also covers a ramp above 9,999"
+    Ramp = 14,
 
-// "generation reserve: proportion 0 or above its maximum"
-pub const PROPORTION_REFUSED: u8 = 15;
+    // "generation reserve: proportion 0 or above its maximum"
+    Proportion = 15,
 
-// "total above generation or combined maximum (energy), or above the service's own"
-pub const ABOVE_CAPACITY: u8 = 16;
+    // "total above generation or combined maximum (energy), or above the service's own"
+    AboveCapacity = 16,
 
-// "gate"
-pub const GATE_CLOSED: u8 = 17;
+    // "gate"
+    GateClosed = 17,
 
-// "standing offer equal to the held one"
-pub const DUPLICATE: u8 = 18;
+    // "standing offer equal to the held one"
+    Duplicate = 18,
 
-// "nothing in force"
-pub const NOTHING_IN_FORCE: u8 = 19;
+    // "nothing in force"
+    NothingInForce = 19,
 
-// "opening: .."
-pub const OPENING_REFUSED: u8 = 20;
+    // "opening: .."
+    Opening = 20,
 
-// "the date doesn't exist, the year is outside 2024–2099, the period is outside 1–48, or P is below 0 or beyond the last date's"
-pub const DATE_REFUSED: u8 = 21;
+    // "the date doesn't exist, the year is outside 2024–2099, the period is outside 1–48, or P is below 0 or beyond the last date's"
+    Date = 21,
+}
+
+impl Refusal {
+    pub fn number(self) -> u8
+        ensures { result ≡ number self }
+    {
+        self as u8
+    }
+}
+
+// Refused where a test applies.
+#[tactic(auto, unfolding(offer_rules::specs::Numbers::draw))]
+pub fn refuse_if(applies: bool, refusal: Refusal) -> Result<(), Refusal>
+    ensures { drawn result ≡ draw applies (number refusal) }
+{
+    if applies { Err(refusal) } else { Ok(()) }
+}
+
+// The number that a test or a call returns: 0 where it isn't refused.
+pub fn drawn(outcome: Result<(), Refusal>) -> u8
+    ensures { result ≡ drawn outcome }
+{
+    match outcome {
+        Ok(()) => 0,
+        Err(refusal) => refusal.number(),
+    }
+}

@@ -4,4 +4,5 @@ pub mod Signs
 pub mod Adding
 pub mod Copying
 pub mod Chains
+pub mod Chunks
 pub mod WordByWord

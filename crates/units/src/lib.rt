@@ -1,103 +1,82 @@
-// Prices and quantities as types of their own, signed words as counts, tests and copies of words, and the drawing of a refusal number.
+// Prices and quantities as types of their own, the pairs of an offer, signed words as counts, and tests of words.
 #![tactic(auto)]
 
-ghost use Rattle.std.specs.Prelude.{◌≡◌, cond, ◌+◌, ◌≤◌, ◌<◌, pos, length, get_or};
-ghost use Rattle.offer_rules.specs.Numbers.{to_nat, eq_z, word, beyond, any_beyond};
-ghost use Rattle.units.specs.Typed.{price_of, quantity_of};
+ghost use Rattle.std.specs.Prelude.{◌≡◌, ℕ, [], ◌/◌, ◌<◌, length, slice_index_or, false, ◌||◌, fold};
+ghost use Rattle.offer_rules.specs.Numbers.{to_nat, beyond, any_beyond};
+ghost use Rattle.offer_rules.specs.Offer.{is_blank};
+ghost use Rattle.units.specs.Typed.{pair_of, typed, pair_at};
 
 // Whole cents per MWh.
-#[derive(Clone, Copy)]
+#[derive(Clone, Copy, Debug, PartialEq, Eq, PartialOrd, Ord)]
 pub struct Price(pub i32);
 
 // Whole tenths of a MW.
-#[derive(Clone, Copy)]
+#[derive(Clone, Copy, Debug, PartialEq, Eq, PartialOrd, Ord)]
 pub struct Quantity(pub i32);
 
-// "A pair with quantity 0 is blank"
-pub fn is_blank(quantity: Quantity) -> bool
-    ensures { result ≡ eq_z quantity.0 (pos 0) }
-{
-    is_zero(quantity.0)
+// "price, quantity", as two words of an offer
+#[derive(Clone, Copy, Debug, PartialEq, Eq)]
+pub struct Pair {
+    pub price: Price,
+    pub quantity: Quantity,
 }
 
-pub fn price_at(words: &[i32], at: usize) -> Price
-    requires { at < length words.now }
-    ensures { result ≡ price_of (get_or words.now at (pos 0)) }
-{
-    Price(words[at])
+impl From<[i32; 2]> for Pair {
+    ghost from_gives = { λ words pair. pair ≡ typed words };
+
+    fn from([price, quantity]: [i32; 2]) -> Pair {
+        Pair {
+            price: Price(price),
+            quantity: Quantity(quantity),
+        }
+    }
 }
 
-pub fn quantity_at(words: &[i32], at: usize) -> Quantity
-    requires { at < length words.now }
-    ensures { result ≡ quantity_of (get_or words.now at (pos 0)) }
+impl Pair {
+    // "A pair with quantity 0 is blank"
+    #[tactic(auto, unfolding(offer_rules::specs::Offer::is_blank))]
+    pub fn is_blank(self) -> bool
+        ensures { result ≡ is_blank (pair_of self) }
+    {
+        self.quantity == Quantity(0)
+    }
+}
+
+// The words of an offer's pairs, two by two.
+#[tactic(auto, using(crate::proofs::Chunks::chunk_of_two))]
+pub fn pair_words(words: &[i32]) -> &[[i32; 2]]
+    ensures count { length result.now ≡ length words.now / 2 }
+    ensures each { (i : ℕ) → i < length result.now → pair_of (typed (slice_index_or result.now i [])) ≡ pair_at words.now i }
 {
-    Quantity(words[at])
+    words.as_chunks::<2>().0
 }
 
 // A signed word as a count: 0 where it is negative.
 pub fn nat(x: i32) -> u64
     ensures { (result ≡ to_nat x) × (result < 2147483648) }
 {
-    if x < 0 {
-        return 0;
-    }
-    x as u64
+    u64::try_from(x).unwrap_or(0)
 }
 
 // Outside lo to hi.
 pub fn is_beyond(lo: i32, hi: i32, x: i32) -> bool
     ensures { result ≡ beyond lo hi x }
 {
-    (x < lo) | (hi < x)
+    !(lo..=hi).contains(&x)
 }
 
-pub fn is_equal(a: i32, b: i32) -> bool
-    ensures { result ≡ eq_z a b }
+// Whether a word is outside lo to hi, asked of all without a branch.
+fn fold_beyond(words: &[i32], lo: i32, hi: i32) -> bool
+    ensures { result ≡ fold (λ any x. any || beyond lo hi x) false words.now }
 {
-    a == b
+    words
+        .iter()
+        .fold(false, |any, x| any | is_beyond(lo, hi, *x))
 }
 
-pub fn is_zero(x: i32) -> bool
-    ensures { result ≡ eq_z x (pos 0) }
+// Any of the words outside lo to hi.
+pub fn any_beyond(words: &[i32], lo: i32, hi: i32) -> bool
+    ensures { result ≡ any_beyond lo hi words.now 0 (length words.now) }
 {
-    x == 0
-}
-
-// The number n where a test applies, else the one drawn by the tests after it.
-pub fn first(applies: bool, n: u8, rest: u8) -> u8
-    ensures { result ≡ cond applies n rest }
-{
-    if applies { n } else { rest }
-}
-
-// ---- words
-
-fn is_word_beyond(words: &[i32], at: usize, lo: i32, hi: i32) -> bool
-    requires { at < length words.now }
-    ensures { result ≡ beyond lo hi (word words.now at) }
-{
-    is_beyond(lo, hi, words[at])
-}
-
-// Any of the words outside lo to hi, `count` of them from `from` on.
-pub fn any_beyond(words: &[i32], from: usize, count: usize, lo: i32, hi: i32) -> bool
-    requires { from + count ≤ length words.now }
-    ensures { result ≡ any_beyond lo hi words.now from count }
-{
-    let mut any = false;
-    for i in 0..count {
-        any = any | is_word_beyond(words, from + i, lo, hi);
-    }
-    any
-}
-
-// Copies words from the first to the last.
-pub fn copy_words(to: &mut [i32], from: &[i32])
-    requires { length to.old ≡ length from.now }
-    ensures { to.new ≡ from.now }
-{
-    let n = from.len();
-    for i in 0..n {
-        to[i] = from[i];
-    }
+    fold_beyond(words, lo, hi)
 }

@@ -1,0 +1,2 @@
+-- Laws that the proofs of the crates above share.
+pub mod Chains
