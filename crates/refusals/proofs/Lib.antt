@@ -1,2 +1,4 @@
--- Laws of the loops over words, and of an outage that draws no number.
+-- Laws of numbers drawn, of words that are lent, and of an outage that draws no number.
+pub mod Bounds
+pub mod Lent
 pub mod OutagePassed

@@ -1,27 +1,27 @@
--- any_mark_astray: mark by mark, against the kind's row.
-use Rattle.std.proofs.Common.{◌≡◌, sym, ◌∙◌, ap, ap₂, not, ◌&&◌, ◌||◌, List, ℕ, suc, ◌+◌, arith, ℤ, FitsSigned, w32, rules}
-use mir.Facts.{to_z-of_z}
+-- Mark by mark, against the kind's row.
+use Rattle.std.proofs.Common.{◌≡◌, ◌∙◌, refl, ap, not, false, ◌&&◌, ◌||◌, Bool, List, ℕ, ℤ, FitsSigned, rules, w32}
+use Rattle.std.proofs.lemmas.Iterator.{YieldsList-from_range}
+use Rattle.std.proofs.lemmas.Iterator.Consumers.{fold_from_yields_List}
+use Rattle.std.specs.List.{fold, range_with_len}
+use Rattle.units.proofs.Counts.{handed_on}
 use Rattle.offer_rules.specs.Numbers.{word}
-use Rattle.offer_rules.specs.Kinds.{Range, kind_row, may_be_marked, is_in}
+use Rattle.offer_rules.specs.Kinds.{Range, kind_row, is_in}
 use Rattle.offer_rules.specs.Offer.{kind_of}
+use Rattle.kinds.specs.Meaning.{range_of}
 use Rattle.book_rules.specs.Refusals.{is_registered, any_mark_astray}
 use Rattle.refusals.proofs.any_mark_astray.Goals as goal
 
-one_more : (c : List ℤ) (s : ℕ) → any_mark_astray c (s + 1) ≡ (any_mark_astray c s || (is_registered c s && not (may_be_marked (kind_of c) s)))
-unfolding any_mark_astray
-one_more c s = let next : s + 1 ≡ suc s = omega arith in rw next
+abbrev one_more : List ℤ → Range → Bool → ℕ → Bool
+one_more w allowed any s = any || (is_registered w s && not (is_in allowed s))
 
-pub loop-s-init : goal.loop-s-init
+by_row : (w : List ℤ) (allowed : Range) → allowed ≡ (kind_row (kind_of w)).marks → fold (one_more w allowed) false (range_with_len 0 5) ≡ any_mark_astray w 5
 unfolding any_mark_astray
-loop-s-init c = search rules
+by_row w allowed e = ap (λ (r : Range). fold (one_more w r) false (range_with_len 0 5)) e
 
-pub loop-s-preserved : goal.loop-s-preserved
-loop-s-preserved c =
+pub returns : goal.returns
+returns c =
     let w = c.args.sent.now in
-    let f : FitsSigned w32 (word w 0) = search rules in
-    let row = c.marks-allowed.ensures ∙ ap (λ (z : ℤ). (kind_row z).marks) (to_z-of_z {w = w32} f) in (
-      omega arith,
-      ap₂ ◌||◌ c.loop-s.invariant.1
-          (c.is_mark_astray-astray.ensures ∙ ap (λ (r : Range). is_registered w c.loop-s.s && not (is_in r c.loop-s.s)) row)
-          ∙ sym (one_more w c.loop-s.s),
-    )
+    let allowed = range_of c.marks-allowed.result in
+    let kind : FitsSigned w32 (word w 0) = search rules in
+    fold_from_yields_List _ (one_more w allowed) false _ c.fold.ensures.ran (YieldsList-from_range 0 5 5 refl refl) (λ a x b q k. search rules)
+    ∙ by_row w allowed (c.marks-allowed.ensures ∙ ap (λ (z : ℤ). (kind_row z).marks) (handed_on kind refl))
