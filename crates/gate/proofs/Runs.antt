@@ -1,6 +1,7 @@
 -- The first tenth that differs, run by run: the first runs of two offers taken together, then what is left of both.
 use mathlib.Core.Path.{◌≡◌, refl, sym, ap, ◌∙◌}
-use mathlib.Core.Bool.{Bool, true, false, cond, ◌&&◌, ◌||◌}
+use Rattle.std.specs.Option.{is_some}
+use mathlib.Core.Bool.{Bool, true, false, cond, not, ◌&&◌, ◌||◌}
 use mathlib.Core.List.{List, [], ◌∷◌}
 use Prim.Native.Nat.{ℕ, zero, suc, ◌+◌, ◌-◌, ◌<◌, ◌≤◌, min}
 use native.Mathlib.Omega.{arith}
@@ -10,8 +11,17 @@ use lib.IntN.{ℤ, pos, negsuc}
 use Rattle.offer_rules.specs.Numbers.{eq_z}
 use Rattle.offer_rules.specs.Offer.{Pair}
 use Rattle.offer_rules.specs.Gate.{tenths_of, total_tenths, price_of_tenth, same_prices_to, same_prices}
-use Rattle.gate.specs.Differing.{or_else, first_differing_to, smaller_total, first_differing}
-use Rattle.gate.specs.Merging.{cut, later}
+use Rattle.gate.specs.Differing.{or_else, first_differing_to, smaller_total, first_differing, tenth_or_none}
+
+-- Pairs without the first n tenths of the first.
+unfoldable pub cut : ℕ → List Pair → List Pair
+cut n [] = []
+cut n (x ∷ l) = record { price = x.price; quantity = pos (tenths_of x - n) } ∷ l
+
+-- A tenth's number, counted from n tenths before; 0 stays.
+abbrev pub later : ℕ → ℕ → ℕ
+later n zero = 0
+later n (suc k) = suc (n + k)
 
 -- An offer that begins with n tenths at p.
 abbrev pub run : ℤ → ℕ → List Pair → List Pair
@@ -179,3 +189,10 @@ none_to (suc n) x y =
 pub none_differs_is_same : (old new : List Pair) → eqb (first_differing old new) 0 ≡ same_prices old new
 unfolding first_differing smaller_total same_prices
 none_differs_is_same old new = none_to (min (total_tenths old) (total_tenths new)) old new
+
+pub found_where_prices_differ : (old new : List Pair) → is_some (tenth_or_none (first_differing old new)) ≡ not (same_prices old new)
+found_where_prices_differ old new = found (first_differing old new) ∙ ap not (none_differs_is_same old new)
+  where
+    found : (n : ℕ) → is_some (tenth_or_none n) ≡ not (eqb n 0)
+    found zero = refl
+    found (suc n) = ap not (sym (ne_eqb (suc n) 0 (λ e. omega arith)))
