@@ -1,3 +1,3 @@
--- Laws of what a reader draws.
-pub mod Periods
+-- Laws of what a reader draws and answers.
 pub mod LookUpNumber
+pub mod Read

@@ -1,61 +1,68 @@
 // The two calls that read (8 and 9), on a book that passes 1 by a record that passes 2, 3 and 4: "Calls 8 and 9 write none."
 #![tactic(auto)]
 
-ghost use Rattle.std.specs.Prelude.{◌≡◌, ◌<◌};
+ghost use Rattle.std.specs.Prelude.{◌≡◌, ◌<◌, Some, IfOk};
+ghost use Rattle.offer_rules.specs.Numbers.{to_nat};
+ghost use Rattle.layout.specs.Refusal.{drawn};
 ghost use Rattle.book_rules.specs.Record.{call_of, service_of};
-ghost use Rattle.book_rules.specs.Book.{services_in, book_answer};
-ghost use Rattle.cells.specs.Meaning.{answer_of};
+ghost use Rattle.book_rules.specs.Force.{in_force};
+ghost use Rattle.book_rules.specs.Refusals.{look_up_number};
+ghost use Rattle.book_rules.specs.Book.{services_in, book_view, book_answer};
+ghost use Rattle.cells.specs.Meaning.{meaning, answer_of};
 ghost use Rattle.judging.specs.Tested.{Tested, Place};
 
-use cells::{Answer, in_force, is_nothing, look_up, plain, total};
-use judging::{clock, facilities, kind_number, period_number, services, wide};
-use layout::{fields, refusal};
-use record::word_at;
-use refusals::first_drawn;
+use cells::{Answer, InForce};
+use judging::{Book, Facility, Series};
+use layout::{Refusal, fields};
+use record::{Record, word_at};
 use units::nat;
 
+// 5, 10 and 19; the offer in force.
+#[tactic(auto, using(layout::proofs::Chains::passed_first, layout::proofs::Chains::refused_first, crate::proofs::LookUpNumber::force_drawn), unfolding(book_rules::specs::Refusals::look_up_number, book_rules::specs::Book::book_view))]
+fn asked<'a>(series: Series<'a>, period: i32) -> Result<InForce<'a>, Refusal>
+    ensures number { drawn result ≡ look_up_number (book_view series.entry.facility.book.words.now) series.entry.facility.f series.entry.service period }
+    ensures offer { IfOk result (λ x. meaning (Some x) ≡ in_force (book_view series.entry.facility.book.words.now) series.entry.facility.f series.entry.service (to_nat period)) }
+{
+    let book = series.facility.book;
+    series.facility.check_kind()?;
+    book.check_period(period)?;
+    let s = usize::from(series.service);
+    let offer = book
+        .cells()
+        .in_force(series.facility.f, s, nat(period) as usize);
+    offer.ok_or(Refusal::NothingInForce)
+}
+
 // 5, 10 and 19; answers the offer in force.
-pub fn look_up_call(book: &[i32], bytes: &[u8]) -> Answer
+pub fn look_up_call(book: &[i32], bytes: &Record) -> Answer
     requires { Place book.now bytes.now 8 }
     ensures { answer_of result ≡ book_answer book.now bytes.now }
 {
-    let f = wide(bytes[fields::FACILITY]);
-    let service = wide(bytes[fields::SERVICE]);
-    let period = word_at(bytes, fields::PERIOD);
-    let number = first_drawn(kind_number(book, f), period_number(book, period));
-    if number != 0 {
-        return plain(number);
-    }
-    let x = in_force(
+    let book = Book { words: book };
+    let facility = Facility {
         book,
-        facilities(book),
-        services(book),
-        f,
-        service,
-        nat(period) as usize,
-    );
-    if is_nothing(x) {
-        return plain(refusal::NOTHING_IN_FORCE);
+        f: usize::from(bytes[fields::FACILITY]),
+    };
+    let series = Series {
+        facility,
+        service: bytes[fields::SERVICE],
+    };
+    match asked(series, word_at(bytes, fields::PERIOD)) {
+        Ok(offer) => offer.look_up(book.clock()),
+        Err(refusal) => Answer::from(refusal),
     }
-    look_up(book, clock(book), x)
 }
 
 // 10; answers the count and the sum.
-pub fn total_call(book: &[i32], bytes: &[u8]) -> Answer
+pub fn total_call(book: &[i32], bytes: &Record) -> Answer
     requires { Tested book.now bytes.now × (call_of bytes.now ≡ 9) × (service_of bytes.now < services_in book.now) }
     ensures { answer_of result ≡ book_answer book.now bytes.now }
 {
-    let service = wide(bytes[fields::SERVICE]);
+    let book = Book { words: book };
+    let service = usize::from(bytes[fields::SERVICE]);
     let period = word_at(bytes, fields::PERIOD);
-    let number = period_number(book, period);
-    if number != 0 {
-        return plain(number);
+    match book.check_period(period) {
+        Ok(()) => book.cells().total(service, nat(period) as usize),
+        Err(refusal) => Answer::from(refusal),
     }
-    total(
-        book,
-        facilities(book),
-        services(book),
-        service,
-        nat(period) as usize,
-    )
 }

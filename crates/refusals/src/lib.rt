@@ -56,6 +56,7 @@ pub fn check_outage(
     requires { clock ≤ 1000000000 }
     ensures number { drawn result ≡ outage_number clock capability.now minute count }
     ensures bound { drawn result ≤ 7 }
+    ensures passed { drawn result ≡ 0 → to_nat count ≤ 48 }
 {
     let longest = longest_outage(capability[facility::KIND]);
     let minute_beyond = is_beyond(0, clock as i32, minute);
@@ -74,10 +75,11 @@ pub fn outage_window(minute: i32, count: i32) -> [i32; 2]
 }
 
 // "notice: reason not 3–5, or not 0 ≤ A ≤ B ≤ 40,000,000"
-#[tactic(auto, using(crate::proofs::Bounds::draw_most), unfolding(book_rules::specs::Refusals::notice_number))]
+#[tactic(auto, using(crate::proofs::Bounds::draw_most))]
 pub fn check_notice(kind: u8, first: i32, last: i32) -> Result<(), Refusal>
     ensures number { drawn result ≡ notice_number kind first last }
     ensures bound { drawn result ≤ 7 }
+    ensures passed { drawn result ≡ 0 → (3 ≤ kind) × (kind ≤ 5) }
 {
     let is_kind = (fields::ENERGY_SURPLUS..=fields::SYSTEM_STATUS).contains(&kind);
     let is_window = ((0 <= first) & (first <= last)) & (last <= time::LAST_NOTICE_PERIOD);

@@ -1,42 +1,19 @@
--- An offer's number in two parts: 5, 9 and 10, and what it draws once it is admitted; what its call then answers and leaves; and a variation's cell.
-use mathlib.Core.Path.{◌≡◌, sym, ◌∙◌}
-use mathlib.Core.Logic.{◌⊎◌, inr}
-use mathlib.Core.Bool.{Bool, true, false, cond}
-use mathlib.Core.List.{List}
-use Prim.Native.Nat.{ℕ, zero, suc, ◌≤◌}
-use native.Mathlib.Omega.{arith}
-use lib.Dec.{eqb}
-use lib.IntN.{ℤ}
-use borrow.Author.Tests.{ne_eqb}
+-- An offer's number in two parts: 5, 9 and 10, and what it draws once it is admitted; and a variation's cell.
+use Rattle.std.proofs.Common.{◌≡◌, sym, ◌∙◌, Bool, true, false, List, ℕ, ℤ, inr, ◌⊎◌}
 use Rattle.offer_rules.specs.Numbers.{to_nat, word, zeros, ◌then◌}
 use Rattle.offer_rules.specs.Time.{slot_refused, period_refused}
 use Rattle.offer_rules.specs.Offer.{pairs, accepted_at, all_blank, offer_number}
-use Rattle.units.proofs.Chains.{then_none, then_drawn}
+use Rattle.units.proofs.Chains.{then_none}
 use Rattle.book_rules.specs.Record.{call_of, facility_of, service_of, period_word, reason_of, offer_in, has_stray}
 use Rattle.book_rules.specs.Words.{part, clock_place, limits_place, facility_place, cell, ramps_fit, holding}
-use Rattle.book_rules.specs.Force.{in_force, variation_made, will_stand, pairs_of, plain}
+use Rattle.book_rules.specs.Force.{in_force, variation_made, will_stand, pairs_of}
 use Rattle.book_rules.specs.Refusals.{judge, grounds, gate_number, admission_number, admitted_standing, admitted_variation, standing_number, variation_number}
-use Rattle.book_rules.specs.Book.{facilities_in, services_in, book_view, book_accept}
+use Rattle.book_rules.specs.Book.{facilities_in, services_in, book_view}
 use Rattle.book_rules.proofs.Calls.{named, judge_standing, judge_variation}
 use Rattle.book_rules.proofs.Cells.{last_five_unsent, offer_fits}
 use Rattle.book_rules.proofs.Rules.{admitted_standing_fits}
 use Rattle.offers.specs.PairTests.{UsesFive}
 use Rattle.judging.specs.Tested.{Tested}
-use Rattle.judging.proofs.Answering.{Answers, refused, filed}
-
-module _ (w : List ℤ) (b : List ℕ) (t : Tested w b) (admission rest : ℕ) (j : judge (book_view w) b ≡ (admission then rest)) where
-  -- Not admitted.
-  pub turned_away : (n : ℕ) → n ≡ admission → (n ≡ 0 → ⊥) → Answers w b (plain n) w
-  turned_away n e h = refused w b t n (j ∙ then_drawn admission rest (λ z. h (e ∙ z)) ∙ sym e) h
-
-  -- Admitted: the number it draws, and the words where it draws none.
-  pub judged : (k : ℕ) → call_of b ≡ k → k ≤ 7 → admission ≡ 0 → (n : ℕ) → n ≡ rest → (v : List ℤ) → v ≡ book_accept w b
-      → Answers w b (plain n) (cond (eqb n 0) v w)
-  judged k c h z n e v q = go n (j ∙ then_none admission rest z ∙ sym e)
-    where
-      go : (m : ℕ) → judge (book_view w) b ≡ m → Answers w b (plain m) (cond (eqb m 0) v w)
-      go zero d = filed w b t k c h d v q
-      go (suc m) d = rw (ne_eqb (suc m) 0 (λ x. omega arith)) (refused w b t (suc m) d (λ x. omega arith))
 
 -- 5, 9 and 10 of the offer that a record carries.
 abbrev pub admission_of : List ℤ → List ℕ → Bool → ℕ
@@ -49,14 +26,7 @@ module _ (w : List ℤ) (b : List ℕ) where
   unfolding standing_number book_view
   standing_parts c = judge_standing (book_view w) b c
 
-  pub variation_parts : call_of b ≡ 4
-      → judge (book_view w) b
-      ≡ (admission_of w b (period_refused (to_nat (word w clock_place)) (period_word b)) then admitted_variation (book_view w) (facility_of b) (service_of b) (to_nat (period_word b)) (reason_of b) (offer_in b))
-  unfolding variation_number book_view
-  variation_parts c = judge_variation (book_view w) b c
-
--- 11 to 16 of a variation, then 17.
-module _ (w : List ℤ) (b : List ℕ) where
+  -- 11 to 16 of a variation, then 17
   abbrev pub own_offer_number : ℕ
   own_offer_number = offer_number (part limits_place 6 w) (part (facility_place (facility_of b)) 17 w) (service_of b) (reason_of b) (offer_in b)
 
@@ -67,16 +37,16 @@ module _ (w : List ℤ) (b : List ℕ) where
       gate_number (to_nat (word w clock_place)) (grounds vw (facility_of b)) (service_of b) p (reason_of b)
       (pairs_of (in_force vw (facility_of b) (service_of b) p)) (pairs_of (will_stand vw (facility_of b) (service_of b) p (offer_in b)))
 
-  abbrev variation_rest : ℕ
-  variation_rest = admitted_variation (book_view w) (facility_of b) (service_of b) (to_nat (period_word b)) (reason_of b) (offer_in b)
+  pub variation_parts : call_of b ≡ 4
+      → judge (book_view w) b
+      ≡ (admission_of w b (period_refused (to_nat (word w clock_place)) (period_word b)) then (own_offer_number then own_gate_number))
+  unfolding variation_number admitted_variation book_view
+  variation_parts c = judge_variation (book_view w) b c
 
-  pub drawn_by_offer : (n : ℕ) → n ≡ own_offer_number → (n ≡ 0 → ⊥) → n ≡ variation_rest
-  unfolding admitted_variation book_view
-  drawn_by_offer n e h = e ∙ sym (then_drawn own_offer_number own_gate_number (λ z. h (e ∙ z)))
-
-  pub drawn_by_gate : own_offer_number ≡ 0 → (n : ℕ) → n ≡ own_gate_number → n ≡ variation_rest
-  unfolding admitted_variation book_view
-  drawn_by_gate z n e = e ∙ sym (then_none own_offer_number own_gate_number z)
+  -- one that is admitted
+  pub admitted_parts : call_of b ≡ 4 → admission_of w b (period_refused (to_nat (word w clock_place)) (period_word b)) ≡ 0
+      → judge (book_view w) b ≡ (own_offer_number then own_gate_number)
+  admitted_parts c z = variation_parts c ∙ then_none _ _ z
 
 -- An offer that draws none has ramps that its cell gives back.
 module _ (w : List ℤ) (b : List ℕ) (t : Tested w b) where
@@ -87,11 +57,11 @@ module _ (w : List ℤ) (b : List ℕ) (t : Tested w b) where
   pub offer_uses_five : (call_of b ≡ 3) ⊎ (call_of b ≡ 4) → UsesFive (service_of b) (offer_in b)
   offer_uses_five c other = last_five_unsent b none_stray c other
 
-  pub standing_ramps : call_of b ≡ 3 → (k n : ℕ) → n ≡ admitted_standing (book_view w) (facility_of b) (service_of b) k (reason_of b) (offer_in b) → n ≡ 0 → ramps_fit (offer_in b) ≡ true
-  standing_ramps c k n e z = admitted_standing_fits (book_view w) b none_stray k c (sym e ∙ z)
+  pub standing_ramps : call_of b ≡ 3 → (k : ℕ) → 0 ≡ admitted_standing (book_view w) (facility_of b) (service_of b) k (reason_of b) (offer_in b) → ramps_fit (offer_in b) ≡ true
+  standing_ramps c k e = admitted_standing_fits (book_view w) b none_stray k c (sym e)
 
-  pub variation_ramps : call_of b ≡ 4 → own_offer_number w b ≡ 0 → ramps_fit (offer_in b) ≡ true
-  variation_ramps c z = offer_fits _ _ (reason_of b) b none_stray (inr c) z
+  pub variation_ramps : call_of b ≡ 4 → 0 ≡ own_offer_number w b → ramps_fit (offer_in b) ≡ true
+  variation_ramps c z = offer_fits _ _ (reason_of b) b none_stray (inr c) (sym z)
 
 -- A variation's cell: empty where its pairs are all blank, else stamped.
 module _ (stamp now : ℕ) (o : List ℤ) where

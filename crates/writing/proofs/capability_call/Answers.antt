@@ -1,24 +1,24 @@
-use Rattle.std.proofs.Common.{arith, ◌≡◌, refl, sym, ◌∙◌, ap, ℕ, ◌+◌, to_z-of_z, to_z, of_z, w32}
 use borrow.Author.Rules.{sfits_of}
-use Rattle.book_rules.specs.Record.{facility_of, word_at}
+use Rattle.std.proofs.Common.{sym, ◌∙◌, ap, ap₂, ℕ, Bool}
+use Rattle.units.proofs.Counts.{handed_on}
+use Rattle.offer_rules.specs.Numbers.{draw}
+use Rattle.book_rules.specs.Record.{facility_of}
 use Rattle.book_rules.specs.Words.{part, facility_place}
+use Rattle.book_rules.specs.Refusals.{kind_refused}
 use Rattle.book_rules.specs.Book.{book_view}
 use Rattle.book_rules.proofs.Calls.{judge_capability}
-use Rattle.judging.proofs.Lent.{lent}
-use Rattle.judging.proofs.Answering.{refused}
+use Rattle.judging.proofs.Answering.{refused_by}
 use Rattle.writing.proofs.SentKind.{sent_kind_drawn}
 use Rattle.writing.proofs.capability_call.Goals as goal
 
-pub returns-then-is_kind_refused : goal.returns-then-is_kind_refused
+pub returns-in_err-refuse_if : goal.returns-in_err-refuse_if
 unfolding book_view
-returns-then-is_kind_refused c =
+returns-in_err-refuse_if c =
     let w = c.args.book.now in
     let b = c.args.bytes.now in
-    let k = c.word_at-kind in
-    let at : ℕ = facility_place c.wide.result in
-    let held = lent at 17 (at + 17) w refl ∙ ap (λ (f : ℕ). part (facility_place f) 17 w) c.wide.ensures in
-    let kind : to_z w32 (of_z w32 k.result) ≡ word_at b 32 = to_z-of_z {w = w32} (sfits_of k.type_inv) ∙ k.ensures in
-    refused w b c.requires.tested 8
-    (judge_capability (book_view w) b c.requires.call_is
-    ∙ sent_kind_drawn (part (facility_place (facility_of b)) 17 w) b (sym (rw (held, kind) at c.is_kind_refused.ensures) ∙ c.if-is_kind_refused.true))
-    (λ e. omega arith)
+    let held = c.capability.ensures ∙ ap (λ (f : ℕ). part (facility_place f) 17 w) c.from.ensures in
+    let kind = handed_on (sfits_of c.word_at-kind.type_inv) c.word_at-kind.ensures in
+    let x = c.in_err-refuse_if in
+    let drawn = x.ensures ∙ ap (λ (t : Bool). draw t 8) (c.is_kind_refused.ensures ∙ ap₂ kind_refused held kind) in
+    refused_by w b c.requires.tested c.from_residual.result x.field-0.0 c.from_residual.ensures.1
+    (sent_kind_drawn x.field-0.0 (part (facility_place (facility_of b)) 17 w) b drawn ∙ sym (judge_capability (book_view w) b c.requires.call_is))

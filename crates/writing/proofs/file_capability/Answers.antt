@@ -1,32 +1,30 @@
-use Rattle.std.proofs.Common.{arith, refl, sym, ◌∙◌, ap, ap₂, ℕ, ◌+◌}
+use Rattle.std.proofs.Common.{arith, sym, ◌∙◌, ap, ap₂, ℕ}
 use Rattle.book_rules.specs.Words.{part, put, facility_place}
 use Rattle.book_rules.specs.Refusals.{capability_number}
 use Rattle.book_rules.specs.Book.{book_view}
 use Rattle.book_rules.proofs.Calls.{judge_capability}
 use Rattle.book_rules.proofs.OneCall.{accept_capability}
-use Rattle.judging.proofs.Lent.{lent}
-use Rattle.judging.proofs.Answering.{refused, filed}
+use Rattle.judging.proofs.Answering.{refused_by, filed}
 use Rattle.writing.proofs.file_capability.Goals as goal
 
-pub returns-then-number-ne0 : goal.returns-then-number-ne0
+pub returns-in_err-check_capability : goal.returns-in_err-check_capability
 unfolding book_view
-returns-then-number-ne0 c =
+returns-in_err-check_capability c =
     let w = c.args.book.now in
     let b = c.args.bytes.now in
-    let at : ℕ = facility_place c.wide.result in
-    let held = lent at 17 (at + 17) w refl ∙ ap (λ (f : ℕ). part (facility_place f) 17 w) c.wide.ensures in
-    refused w b c.requires.tested c.capability_number-number.result
-    (judge_capability (book_view w) b c.requires.call_is ∙ sym (c.capability_number-number.ensures.0 ∙ ap₂ capability_number held c.capability_in-sent.ensures))
-    c.if-number-ne0.true
+    let held = c.capability.ensures ∙ ap (λ (f : ℕ). part (facility_place f) 17 w) c.from.ensures in
+    let x = c.in_err-check_capability in
+    refused_by w b c.requires.tested c.from_residual.result x.field-0.0 c.from_residual.ensures.1
+    (x.ensures.number ∙ ap₂ capability_number held c.capability_in-sent.ensures ∙ sym (judge_capability (book_view w) b c.requires.call_is))
 
 pub returns : goal.returns
 unfolding book_view
 returns c =
     let w = c.args.book.now in
     let b = c.args.bytes.now in
-    let at : ℕ = facility_place c.wide.result in
-    let held = lent at 17 (at + 17) w refl ∙ ap (λ (f : ℕ). part (facility_place f) 17 w) c.wide.ensures in
+    let held = c.capability.ensures ∙ ap (λ (f : ℕ). part (facility_place f) 17 w) c.from.ensures in
+    let at = c.start-at.ensures.0 ∙ ap facility_place c.from.ensures in
     filed w b c.requires.tested 2 c.requires.call_is (omega arith)
-    (judge_capability (book_view w) b c.requires.call_is ∙ sym (c.capability_number-number.ensures.0 ∙ ap₂ capability_number held c.capability_in-sent.ensures) ∙ c.if-number-ne0.false)
+    (c.in_ok-check_capability.ensures.number ∙ ap₂ capability_number held c.capability_in-sent.ensures ∙ sym (judge_capability (book_view w) b c.requires.call_is))
     c.store_words.new.book
-    (c.store_words.ensures ∙ ap₂ (put w) (ap facility_place c.wide.ensures) c.capability_in-sent.ensures ∙ sym (accept_capability w b c.requires.call_is))
+    (c.store_words.ensures ∙ ap₂ (put w) at c.capability_in-sent.ensures ∙ sym (accept_capability w b c.requires.call_is))

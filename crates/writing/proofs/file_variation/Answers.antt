@@ -1,4 +1,4 @@
-use Rattle.std.proofs.Common.{rules, sym, ◌∙◌, ap, ℕ, List, ℤ, cond, nat_eq}
+use Rattle.std.proofs.Common.{rules, sym, ◌∙◌, ap, ℕ, List, ℤ}
 use Rattle.offer_rules.specs.Numbers.{any_beyond}
 use Rattle.offer_rules.specs.Time.{slot_of}
 use Rattle.offer_rules.specs.Offer.{accepted_at}
@@ -7,25 +7,23 @@ use Rattle.book_rules.specs.Book.{now_in, write_cell}
 use Rattle.writing.proofs.OfferParts.{empty_cell, stamped_cell}
 use Rattle.writing.proofs.file_variation.Goals as goal
 
-pub file_offer-requires : goal.file_offer-requires
+pub invariant_of-filing : goal.invariant_of-filing
 unfolding any_beyond
-file_offer-requires c = search rules
+invariant_of-filing c = search rules
 
-pub returns-then-blank : goal.returns-then-blank
-returns-then-blank c =
+pub returns-then-is_all_blank : goal.returns-then-is_all_blank
+returns-then-is_all_blank c =
     let a = c.args in
     let w = a.book.now in
-    let filed = λ (l : List ℤ). cond (nat_eq a.number 0) (write_cell w a.f a.service variation_half (slot_of a.period) l) w in
-    let x = c.file_offer in
-    (x.ensures.0, x.ensures.1 ∙ ap filed (empty_cell (variation_stamp a.period) (now_in w) a.offer.now (sym c.requires.6 ∙ c.if-blank.true)))
+    let filed = λ (l : List ℤ). write_cell w a.f a.s variation_half (slot_of a.period) l in
+    c.file_offer.ensures ∙ ap filed (empty_cell (variation_stamp a.period) (now_in w) a.filed.offer.now (sym c.is_all_blank.ensures ∙ c.if-is_all_blank.true))
 
 pub returns : goal.returns
 returns c =
     let a = c.args in
     let w = a.book.now in
-    let o = a.offer.now in
+    let o = a.filed.offer.now in
     let stamp = variation_stamp a.period in
-    let filed = λ (l : List ℤ). cond (nat_eq a.number 0) (write_cell w a.f a.service variation_half (slot_of a.period) l) w in
-    let timed = ap (λ (n : ℕ). filed (cell stamp (accepted_at n o))) c.clock-minute.ensures.0 in
-    let x = c.file_offer-2 in
-    (x.ensures.0, x.ensures.1 ∙ timed ∙ ap filed (stamped_cell stamp (now_in w) o (sym c.requires.6 ∙ c.if-blank.false)))
+    let filed = λ (l : List ℤ). write_cell w a.f a.s variation_half (slot_of a.period) l in
+    let timed = ap (λ (n : ℕ). filed (cell stamp (accepted_at n o))) c.clock.ensures.0 in
+    c.file_offer-2.ensures ∙ timed ∙ ap filed (stamped_cell stamp (now_in w) o (sym c.is_all_blank.ensures ∙ c.if-is_all_blank.false))

@@ -1,0 +1,80 @@
+// A facility of the book, and its words.
+ghost use Rattle.std.specs.Prelude.{◌≡◌, false, ◌+◌, ◌≤◌, ◌<◌, length};
+ghost use Rattle.offer_rules.specs.Numbers.{to_nat, word};
+ghost use Rattle.offer_rules.specs.Offer.{pairs_in};
+ghost use Rattle.offer_rules.specs.Gate.{is_open};
+ghost use Rattle.layout.specs.Refusal.{drawn};
+ghost use Rattle.book_rules.specs.Words.{part, clock_place, facility_place};
+ghost use Rattle.book_rules.specs.Refusals.{facility_number, gate_number, grounds};
+ghost use Rattle.book_rules.specs.Book.{facilities_in, book_view};
+ghost use Rattle.gate.specs.Meaning.{grounds_of, new_words, IsLent};
+
+use crate::words::Book;
+use gate::{Filing, Grounds, New, is_excepted};
+use layout::{Refusal, facility, head, refuse_if};
+
+#[derive(Clone, Copy)]
+pub struct Facility<'a> {
+    pub book: Book<'a>,
+    pub f: usize,
+    pub ghost inside: { f < facilities_in book.words.now },
+}
+
+impl<'a> Facility<'a> {
+    // Where its words start.
+    pub fn start(&self) -> usize
+        ensures { (result ≡ facility_place self.now.f) × (result + 32 ≤ length self.now.book.words.now) }
+    {
+        head::WORDS + facility::WORDS * self.f
+    }
+
+    // W0 to W16.
+    #[tactic(auto, using(std::proofs::lemmas::List::take_rest), unfolding(book_rules::specs::Words::part))]
+    pub fn capability(&self) -> &'a [i32; facility::CAPABILITY]
+        ensures { result.now ≡ part (facility_place self.now.f) 17 self.now.book.words.now }
+    {
+        let at = self.start();
+        self.book.words[at..at + facility::CAPABILITY].as_array().unwrap()
+    }
+
+    // 5.
+    pub fn check_kind(&self) -> Result<(), Refusal>
+        ensures number { drawn result ≡ facility_number (part (facility_place self.now.f) 17 self.now.book.words.now) }
+        ensures bound { drawn result ≤ 5 }
+    {
+        refusals::check_kind(self.capability())
+    }
+
+    // What a reason is held against.
+    #[tactic(auto, using(units::proofs::Counts::word_back, crate::proofs::Lent::first_of_part), unfolding(book_rules::specs::Refusals::grounds, book_rules::specs::Book::book_view))]
+    fn grounds(&self) -> Grounds
+        ensures { grounds_of result ≡ grounds (book_view self.now.book.words.now) self.now.f }
+    {
+        let at = self.start();
+        Grounds {
+            kind: self.book.words[at],
+            outage: self.book.window_at(at + facility::OUTAGE),
+            surplus: self.book.window_at(head::ENERGY_SURPLUS),
+            shortfall: self.book.window_at(head::SHORTFALL),
+            status: self.book.window_at(head::SYSTEM_STATUS),
+        }
+    }
+
+    // 17 inside gate closure, with the pairs of old and those of new.
+    #[tactic(auto, using(crate::proofs::Stages::shut_draws, refusals::proofs::Bounds::draw_most))]
+    pub(crate) fn check_gate(
+        &self,
+        filing: Filing,
+        old: &[i32],
+        new: New<'_>,
+    ) -> Result<(), Refusal>
+        requires ten { length old.now ≤ 20 }
+        requires lent { IsLent new }
+        requires shut { is_open (to_nat (word self.now.book.words.now clock_place)) filing.period ≡ false }
+        ensures number { drawn result ≡ gate_number (to_nat (word self.now.book.words.now clock_place)) (grounds (book_view self.now.book.words.now) self.now.f) filing.service filing.period filing.reason (pairs_in old.now) (pairs_in (new_words new.entry)) }
+        ensures bound { drawn result ≤ 17 }
+    {
+        let excepted = is_excepted(self.grounds(), filing, old, new);
+        refuse_if(!excepted, Refusal::GateClosed)
+    }
+}

@@ -1,0 +1,103 @@
+// A book that passes 1, and its head.
+ghost use Rattle.std.specs.Prelude.{◌≡◌, ◌+◌, ◌≤◌, ◌<◌, length};
+ghost use Rattle.offer_rules.specs.Numbers.{to_nat, word};
+ghost use Rattle.offer_rules.specs.Time.{next_period};
+ghost use Rattle.offer_rules.specs.Gate.{is_open};
+ghost use Rattle.layout.specs.Refusal.{drawn};
+ghost use Rattle.book_rules.specs.Words.{part, clock_place, limits_place};
+ghost use Rattle.book_rules.specs.Refusals.{period_number};
+ghost use Rattle.book_rules.specs.Book.{facilities_in, services_in, window_in};
+ghost use Rattle.gate.specs.Meaning.{window_of};
+ghost use Rattle.judging.specs.Usable.{Usable};
+
+use cells::Cells;
+use gate::{Window, is_before_closure};
+use layout::{Refusal, head, refuse_if};
+use offers::is_period_refused;
+use periods::bilzhaan_next_period;
+use units::nat;
+
+#[derive(Clone, Copy)]
+pub struct Book<'a> {
+    pub words: &'a [i32],
+    pub ghost usable: { Usable words.now },
+}
+
+impl<'a> Book<'a> {
+    pub fn facilities(&self) -> usize
+        ensures { result ≡ facilities_in self.now.words.now }
+    {
+        nat(self.words[head::FACILITIES]) as usize
+    }
+
+    pub fn services(&self) -> usize
+        ensures { result ≡ services_in self.now.words.now }
+    {
+        nat(self.words[head::SERVICES]) as usize
+    }
+
+    pub fn clock(&self) -> u64
+        ensures { (result ≡ to_nat (word self.now.words.now clock_place)) × (result ≤ 1000000000) }
+    {
+        nat(self.words[head::CLOCK])
+    }
+
+    pub fn cells(&self) -> Cells<'a>
+        ensures { (result.words.now ≡ self.now.words.now) × (result.facilities ≡ facilities_in self.now.words.now) × (result.services ≡ services_in self.now.words.now) }
+    {
+        Cells {
+            words: self.words,
+            facilities: self.facilities(),
+            services: self.services(),
+        }
+    }
+
+    // Lowest and highest prices.
+    #[tactic(auto, using(std::proofs::lemmas::List::take_rest), unfolding(book_rules::specs::Words::part))]
+    pub(crate) fn limits(&self) -> &'a [i32; 6]
+        ensures { result.now ≡ part limits_place 6 self.now.words.now }
+    {
+        self.words[head::LIMITS..head::LIMITS_END].as_array().unwrap()
+    }
+
+    #[tactic(auto, using(units::proofs::Counts::word_back, crate::proofs::Lent::window_words))]
+    pub(crate) fn window_at(&self, at: usize) -> Window
+        requires { at + 2 ≤ length self.now.words.now }
+        ensures { window_of result ≡ window_in (part at 2 self.now.words.now) }
+    {
+        Window {
+            first: self.words[at],
+            last: self.words[at + 1],
+        }
+    }
+
+    // 10 for P. Where it isn't drawn, P lies within the horizon of a clock in time.
+    #[tactic(auto, using(refusals::proofs::Bounds::draw_most, crate::proofs::Near::not_far), unfolding(book_rules::specs::Refusals::period_number))]
+    pub fn check_period(&self, period: i32) -> Result<(), Refusal>
+        ensures number { drawn result ≡ period_number (to_nat (word self.now.words.now clock_place)) period }
+        ensures bound { drawn result ≤ 10 }
+        ensures near { drawn result ≡ 0 → to_nat period < 40000000 }
+    {
+        refuse_if(
+            is_period_refused(self.clock(), period),
+            Refusal::Period,
+        )
+    }
+
+    pub(crate) fn is_before_closure(&self, period: u64) -> bool
+        requires { period < 2147483648 }
+        ensures { result ≡ is_open (to_nat (word self.now.words.now clock_place)) period }
+    {
+        is_before_closure(self.clock(), period)
+    }
+
+    // "the slot's next period not yet begun"
+    #[tactic(auto, using(offer_rules::proofs::Periods::next_is_near), unfolding(offer_rules::specs::Time::slot_of))]
+    pub(crate) fn next_period(&self, slot: usize) -> usize
+        requires { slot < 336 }
+        ensures { (result ≡ next_period (to_nat (word self.now.words.now clock_place)) slot) × (result < 2147483647) }
+    {
+        let next = bilzhaan_next_period(self.clock() as u32, slot as u32);
+        next as usize
+    }
+}
