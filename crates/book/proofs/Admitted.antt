@@ -14,7 +14,9 @@ use Rattle.book_rules.proofs.OneCall.{unusable, turned_away}
 use Rattle.opening.proofs.UsableBooks as books
 use Rattle.judging.specs.Usable.{Usable}
 use Rattle.judging.specs.Tested.{Tested, Facility, Place}
-use Rattle.judging.proofs.Answering.{Answers}
+use Rattle.layout.specs.Refusal.{number}
+use Rattle.layout.specs.declared.refusal.Refusal.{Refusal}
+use Rattle.judging.proofs.Answering.{Answers, is_drawn}
 use Rattle.book.specs.Tests.{tested_number}
 
 -- Refusal 1.
@@ -35,17 +37,17 @@ usable w e =
       timely = u.most_clock;
     }
 
--- A number is drawn: it is answered alone, and nothing is written.
-pub turned_down : (w : List ℤ) (b : List ℕ) (n : ℕ) → n ≡ tested_number w b → (n ≡ 0 → ⊥) → Answers w b (plain n) w
-turned_down w b n e h = go (is_book w) refl
+-- Refused: its number is answered alone, and nothing is written.
+pub turned_down : (w : List ℤ) (b : List ℕ) (r : Refusal) → number r ≡ tested_number w b → Answers w b (plain (number r)) w
+turned_down w b r e = go (is_book w) refl
   where
-    go : (t : Bool) → is_book w ≡ t → Answers w b (plain n) w
+    go : (t : Bool) → is_book w ≡ t → Answers w b (plain (number r)) w
     go true u =
-        let k : n ≡ record_number b (facilities_in w) (services_in w) = e ∙ rw u in
-        let x = turned_away w b u (λ z. h (k ∙ z)) in
+        let k : number r ≡ record_number b (facilities_in w) (services_in w) = e ∙ rw u in
+        let x = turned_away w b u (λ z. is_drawn r (k ∙ z)) in
         (ap plain k ∙ sym x.0, sym x.1)
     go false u =
-        let k : n ≡ 1 = e ∙ rw u in
+        let k : number r ≡ 1 = e ∙ rw u in
         let x = unusable w b u in
         (ap plain k ∙ sym x.0, sym x.1)
 

@@ -21,9 +21,10 @@ use writing::{
 };
 
 // 1, then 2 to 4; the bytes as a record.
+#[tactic(auto, using(crate::proofs::Admitted::usable), unfolding(offer_rules::specs::Numbers::draw))]
 fn tested<'a>(book: &[i32], bytes: &'a [u8]) -> Result<&'a Record, Refusal>
     ensures number { drawn result ≡ tested_number book.now bytes.now }
-    ensures record { IfOk result (λ r. r.now ≡ bytes.now) }
+    ensures same { IfOk result (λ r. r.now ≡ bytes.now) }
 {
     refuse_if(!is_book(book), Refusal::BookUnusable)?;
     let book = Book { words: book };

@@ -1,12 +1,13 @@
 -- Demand 3, of running code: what `answer_list` gives for lent words, records and room for answers.
 -- Its answers are the list machine's (book_rules, specs/ListMachine), which has no table.
-use Rattle.std.specs.Prelude.{◌≡◌, cond, List, [], ◌∷◌, ◌++◌, ℕ, zero, suc, ◌*◌, ◌/◌, min, eqb, ℤ, pos, length, take, drop}
+use Rattle.std.specs.Prelude.{◌≡◌, cond, List, [], ◌∷◌, ◌++◌, ℕ, zero, suc, ◌*◌, ◌/◌, min, eqb, ℤ, pos, length, take, drop, Result, Ok, Err}
 use Rattle.offer_rules.specs.Numbers.{to_nat}
 use Rattle.book_rules.specs.Words.{opening_number, opening_words}
 use Rattle.book_rules.specs.Force.{Answer}
 use Rattle.book_rules.specs.Book.{book_run}
 use Rattle.book_rules.specs.ListMachine.{list_answer, list_answers}
-use Rattle.listed.specs.declared.Listed.{Listed}
+use Rattle.layout.specs.Refusal.{drawn}
+use Rattle.layout.specs.declared.refusal.Refusal.{Refusal}
 
 -- The first n records of 112 bytes.
 unfoldable pub chopped : ℕ → List ℕ → List (List ℕ)
@@ -30,14 +31,19 @@ flat (a ∷ rest) = numbers_of a ++ flat rest
 unfoldable pub count_answered : ℕ → List ℕ → List ℤ → ℕ
 count_answered number bytes room = cond (eqb number 0) (min (length bytes / 112) (length room / 26)) 0
 
+-- How many were answered, of what is returned.
+abbrev pub answered : Result ℕ Refusal → ℕ
+answered (Ok count) = count
+answered (Err _) = 0
+
 -- For lent words, an opening's F, S and limits, bytes of records and room for answers:
 -- what is returned, and the words and the numbers afterwards.
-pub record ListAnswered (words : List ℤ) (F S : ℤ) (limits : List ℤ) (bytes : List ℕ) (room : List ℤ) (r : Listed) (words_after numbers_after : List ℤ)
+pub record ListAnswered (words : List ℤ) (F S : ℤ) (limits : List ℤ) (bytes : List ℕ) (room : List ℤ) (r : Result ℕ Refusal) (words_after numbers_after : List ℤ)
     : Type 0 where
   -- "Opening returns its number alone, 0 or 20."
-  pub number_is : r.number ≡ opening_number words F S limits
-  pub count_is : r.count ≡ count_answered r.number bytes room
+  pub number_is : drawn r ≡ opening_number words F S limits
+  pub count_is : answered r ≡ count_answered (drawn r) bytes room
   -- The answers are the list machine's, fed the records alone from no accepted call on. Numbers past them stay.
-  pub answers_are : numbers_after ≡ flat (list_answers (to_nat F) (to_nat S) limits [] (chopped r.count bytes)) ++ drop (26 * r.count) room
+  pub answers_are : numbers_after ≡ flat (list_answers (to_nat F) (to_nat S) limits [] (chopped (answered r) bytes)) ++ drop (26 * answered r) room
   -- The words are those that the records' calls leave, from those of the opening on.
-  pub words_are : words_after ≡ book_run (opening_words words F S limits) (chopped r.count bytes)
+  pub words_are : words_after ≡ book_run (opening_words words F S limits) (chopped (answered r) bytes)
