@@ -1,6 +1,7 @@
 -- Blanks among pairs that are lent as their words: those before the first, and those after the last pair that isn't one.
-use Rattle.std.proofs.Common.{◌≡◌, ℕ, zero, suc, Bool, true, false, cond, ◌&&◌, ◌≤◌, ◌<◌, List, [], ◌∷◌, ◌++◌, refl, ap, length, get_or, take, drop, arith}
+use Rattle.std.proofs.Common.{◌≡◌, ℕ, zero, suc, Bool, true, false, cond, ◌≤◌, ◌<◌, List, [], ◌∷◌, refl, sym, ap, ◌∙◌, length, get_or, take, drop, arith}
 use Rattle.std.specs.Prelude.{ℤ}
+use Rattle.std.proofs.lemmas.List.{take-append-drop, map-append}
 use Rattle.offer_rules.specs.Offer.{Pair, is_blank, all_blank, filled_part, BlanksAfter}
 use Rattle.units.specs.Typed.{pair_of, typed}
 use Rattle.gate.specs.Meaning.{in_pairs}
@@ -34,11 +35,6 @@ part_lent (x ∷ l) = go (is_blank (pair_of (typed x))) (part_lent l)
     go true k = refl
     go false k = ap (λ (m : List Pair). pair_of (typed x) ∷ m) k
 
--- The pairs before pair n and those from it on.
-split_at : (n : ℕ) (l : List (List ℤ)) → in_pairs l ≡ in_pairs (take n l) ++ in_pairs (drop n l)
-split_at zero l = refl
-split_at (suc n) [] = refl
-split_at (suc n) (x ∷ l) = ap (λ (m : List Pair). pair_of (typed x) ∷ m) (split_at n l)
-
+-- The pairs before pair n are followed by blanks, where those from it on are blank.
 pub blanks_from : (l : List (List ℤ)) (n : ℕ) → all_blank (in_pairs (drop n l)) ≡ true → BlanksAfter (in_pairs (take n l)) (in_pairs l)
-blanks_from l n h = record { blanks = in_pairs (drop n l); followed = split_at n l; only_blanks = h }
+blanks_from l n h = record { blanks = in_pairs (drop n l); followed = ap in_pairs (sym (take-append-drop n l)) ∙ map-append (λ words. pair_of (typed words)) (take n l) (drop n l); only_blanks = h }

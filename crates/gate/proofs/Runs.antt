@@ -4,6 +4,7 @@ use Rattle.std.specs.Option.{is_some}
 use mathlib.Core.Bool.{Bool, true, false, cond, not, ◌&&◌, ◌||◌}
 use mathlib.Core.List.{List, [], ◌∷◌}
 use Prim.Native.Nat.{ℕ, zero, suc, ◌+◌, ◌-◌, ◌<◌, ◌≤◌, min}
+use Rattle.std.proofs.Math.Nat.{sub-zero}
 use native.Mathlib.Omega.{arith}
 use borrow.Author.Tests.{le-leb, lt-leb, leb-true, leb-false, eqb-true, eqb-false, eq-eqb, ne_eqb}
 use lib.Dec.{leb, eqb}
@@ -29,9 +30,6 @@ run p n l = record { price = p; quantity = pos n } ∷ l
 
 -- ---- prices of a run's tenths, and of those after it
 
-less_none : (n : ℕ) → n - 0 ≡ n
-less_none n = omega arith
-
 in_run : (p : ℤ) (n : ℕ) (l : List Pair) (m : ℕ) → m < n → price_of_tenth (run p n l) (suc m) ≡ p
 unfolding price_of_tenth
 in_run p n l m h = rw (le-leb (suc m) n (omega arith))
@@ -41,7 +39,7 @@ unfolding price_of_tenth cut
 past_run p n [] m = rw (lt-leb (suc (m + n)) n (omega arith))
 past_run p n (x ∷ l) m =
     let e : suc (m + n) - n ≡ suc m = omega arith in
-    rw (lt-leb (suc (m + n)) n (omega arith), e, less_none (tenths_of x))
+    rw (lt-leb (suc (m + n)) n (omega arith), e, sub-zero (tenths_of x))
 
 still_in : (a b m : ℕ) → a ≤ b → leb (suc (m + a)) b ≡ leb (suc m) (b - a)
 still_in a b m h = go (leb (suc m) (b - a)) refl
@@ -57,12 +55,12 @@ shorter_run p b l a m h = let e : suc (m + a) - b ≡ suc m - (b - a) = omega ar
 total_cut : (l : List Pair) → total_tenths (cut 0 l) ≡ total_tenths l
 unfolding total_tenths cut
 total_cut [] = refl
-total_cut (x ∷ l) = rw (less_none (tenths_of x))
+total_cut (x ∷ l) = rw (sub-zero (tenths_of x))
 
 price_cut : (l : List Pair) (m : ℕ) → price_of_tenth (cut 0 l) m ≡ price_of_tenth l m
 unfolding price_of_tenth cut
 price_cut [] m = refl
-price_cut (x ∷ l) m = rw (less_none (tenths_of x))
+price_cut (x ∷ l) m = rw (sub-zero (tenths_of x))
 
 -- ---- the first that differs among a tenths and k more
 

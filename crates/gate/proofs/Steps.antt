@@ -14,7 +14,7 @@ use Rattle.offer_rules.specs.Gate.{tenths_of}
 use Rattle.units.specs.Typed.{typed, pair_of}
 use Rattle.gate.specs.Meaning.{in_pairs}
 use Rattle.gate.specs.Differing.{or_else, first_differing}
-use Rattle.gate.proofs.Runs.{cut, later, run, pass_shorter, pass_shorter_new, flip, uncut, none_left}
+use Rattle.gate.proofs.Runs.{cut, later, pass_shorter, pass_shorter_new, flip, uncut, none_left}
 
 -- The answer that a merge comes to, where n tenths are passed, and of old and new there are left these pairs without i and j tenths.
 unfoldable pub first_from : List Pair → ℕ → List Pair → ℕ → ℕ → ℕ
@@ -106,10 +106,14 @@ pass_both x y old new i j n e f =
     new_spent old y new 0 (j + (tenths_of x - i)) (n + (tenths_of x - i)) (omega arith)
     ∙ pass_old x y old new i j n (omega arith) f
 
--- ---- the same of pairs lent as their words, of which neither old nor new is at its end
+-- ---- the same of pairs lent as their words
 
 abbrev pub first_of : List (List ℤ) → Pair
 first_of l = pair_of (typed (get_or l 0 []))
+
+from_first : (l : List (List ℤ)) → 0 < length l → in_pairs l ≡ first_of l ∷ in_pairs (drop 1 l)
+from_first [] h = absurd (omega arith)
+from_first (x ∷ l) h = refl
 
 module _ (old new : List (List ℤ)) (i j n : ℕ) where
   abbrev pub left_old : ℕ
@@ -124,28 +128,27 @@ module _ (old new : List (List ℤ)) (i j n : ℕ) where
   abbrev pub answer : ℕ
   answer = first_from (in_pairs old) i (in_pairs new) j n
 
-pub differing : (old new : List (List ℤ)) (i j n : ℕ) → 0 < length old → 0 < length new → first_differ old new i j n ≡ true → answer old new i j n ≡ n + 1
-differing [] new i j n h k f = absurd (omega arith)
-differing (x ∷ old) [] i j n h k f = absurd (omega arith)
-differing (x ∷ old) (y ∷ new) i j n h k f = difference_is_answer (pair_of (typed x)) (pair_of (typed y)) (in_pairs old) (in_pairs new) i j n f
+  module _ (ho : 0 < length old) (hn : 0 < length new) where
+    pub differing : first_differ ≡ true → answer ≡ n + 1
+    differing f =
+        rw (from_first old ho, from_first new hn)
+        (difference_is_answer (first_of old) (first_of new) (in_pairs (drop 1 old)) (in_pairs (drop 1 new)) i j n f)
 
-pub past_old : (old new : List (List ℤ)) (i j n : ℕ) → 0 < length old → 0 < length new → first_differ old new i j n ≡ false → left_old old new i j n ≤ left_new old new i j n
-    → first_from (in_pairs (drop 1 old)) 0 (in_pairs new) (j + left_old old new i j n) (n + left_old old new i j n) ≡ answer old new i j n
-past_old [] new i j n h k f e = absurd (omega arith)
-past_old (x ∷ old) [] i j n h k f e = absurd (omega arith)
-past_old (x ∷ old) (y ∷ new) i j n h k f e = pass_old (pair_of (typed x)) (pair_of (typed y)) (in_pairs old) (in_pairs new) i j n e f
+    module _ (f : first_differ ≡ false) where
+      pub past_old : left_old ≤ left_new → first_from (in_pairs (drop 1 old)) 0 (in_pairs new) (j + left_old) (n + left_old) ≡ answer
+      past_old h =
+          rw (from_first old ho, from_first new hn)
+          (pass_old (first_of old) (first_of new) (in_pairs (drop 1 old)) (in_pairs (drop 1 new)) i j n h f)
 
-pub past_new : (old new : List (List ℤ)) (i j n : ℕ) → 0 < length old → 0 < length new → first_differ old new i j n ≡ false → left_new old new i j n ≤ left_old old new i j n
-    → first_from (in_pairs old) (i + left_new old new i j n) (in_pairs (drop 1 new)) 0 (n + left_new old new i j n) ≡ answer old new i j n
-past_new [] new i j n h k f e = absurd (omega arith)
-past_new (x ∷ old) [] i j n h k f e = absurd (omega arith)
-past_new (x ∷ old) (y ∷ new) i j n h k f e = pass_new (pair_of (typed x)) (pair_of (typed y)) (in_pairs old) (in_pairs new) i j n e f
+      pub past_new : left_new ≤ left_old → first_from (in_pairs old) (i + left_new) (in_pairs (drop 1 new)) 0 (n + left_new) ≡ answer
+      past_new h =
+          rw (from_first old ho, from_first new hn)
+          (pass_new (first_of old) (first_of new) (in_pairs (drop 1 old)) (in_pairs (drop 1 new)) i j n h f)
 
-pub past_both : (old new : List (List ℤ)) (i j n : ℕ) → 0 < length old → 0 < length new → first_differ old new i j n ≡ false → left_old old new i j n ≡ left_new old new i j n
-    → first_from (in_pairs (drop 1 old)) 0 (in_pairs (drop 1 new)) 0 (n + left_old old new i j n) ≡ answer old new i j n
-past_both [] new i j n h k f e = absurd (omega arith)
-past_both (x ∷ old) [] i j n h k f e = absurd (omega arith)
-past_both (x ∷ old) (y ∷ new) i j n h k f e = pass_both (pair_of (typed x)) (pair_of (typed y)) (in_pairs old) (in_pairs new) i j n e f
+      pub past_both : left_old ≡ left_new → first_from (in_pairs (drop 1 old)) 0 (in_pairs (drop 1 new)) 0 (n + left_old) ≡ answer
+      past_both e =
+          rw (from_first old ho, from_first new hn)
+          (pass_both (first_of old) (first_of new) (in_pairs (drop 1 old)) (in_pairs (drop 1 new)) i j n e f)
 
 pub old_ended : (old new : List (List ℤ)) (i j n : ℕ) → length old < 1 → answer old new i j n ≡ 0
 old_ended [] new i j n h = old_at_end i (in_pairs new) j n

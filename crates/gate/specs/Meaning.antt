@@ -6,8 +6,8 @@ use Rattle.offer_rules.specs.Gate as rule
 use Rattle.units.specs.Typed.{typed, pair_of}
 use Rattle.gate.specs.declared.Window.{Window}
 use Rattle.gate.specs.declared.Grounds.{Grounds}
-use Rattle.gate.specs.declared.New.{New}
-use Rattle.gate.specs.declared.New.TheVariants.{Filed, Held}
+use Rattle.gate.specs.declared.Offer.{Offer}
+use Rattle.gate.specs.declared.Offer.TheVariants.{Filed, Held}
 
 abbrev pub window_of : Window → rule.Window
 window_of v = record { first = v.first; last = v.last }
@@ -25,12 +25,11 @@ grounds_of g = record {
 abbrev pub in_pairs : List (List ℤ) → List Pair
 in_pairs l = map (λ words. pair_of (typed words)) l
 
--- The words of the offer that will stand.
-abbrev pub new_words : New → List ℤ
-new_words (Filed words) = words.now
-new_words (Held words) = words.now
+-- An offer's words, and what is asked of them: of a filed one that its blanks come last, of a held one no more than ten pairs.
+abbrev pub words_of : Offer → List ℤ
+words_of (Filed words) = words.now
+words_of (Held words) = words.now
 
--- A filed offer's blanks come last; a held one may be lent in part.
-abbrev pub IsLent : New → Type 0
+abbrev pub IsLent : Offer → Type 0
 IsLent (Filed words) = BlanksLast (pairs_in words.now)
 IsLent (Held words) = length words.now ≤ 20

@@ -1,14 +1,14 @@
 // Gate closure, refusal 17: prices compared tenth by tenth, and the reasons.
 #![tactic(auto)]
 
-ghost use Rattle.std.specs.Prelude.{◌≡◌, true, ◌&&◌, ◌+◌, ◌-◌, ◌*◌, ◌≤◌, ◌<◌, length, drop, ltb, not};
+ghost use Rattle.std.specs.Prelude.{◌≡◌, true, not, ◌&&◌, ◌+◌, ◌-◌, ◌*◌, ◌≤◌, ◌<◌, ltb, length, drop};
 ghost use Rattle.offer_rules.specs.Numbers.{eq_z};
 ghost use Rattle.offer_rules.specs.Kinds.{admits};
 ghost use Rattle.offer_rules.specs.Offer.{pairs_in, all_blank, filled_part, BlanksAfter, BlanksLast};
 ghost use Rattle.offer_rules.specs.Gate.{tenths_of, total_tenths, same_prices, covers, is_open, admits_service, period_covered, total_moved, is_excepted};
-ghost use Rattle.units.specs.Typed.{pair_of};
+ghost use Rattle.units.specs.Typed.{typed, pair_of};
 ghost use Rattle.gate.specs.Differing.{first_differing, tenth_or_none};
-ghost use Rattle.gate.specs.Meaning.{window_of, grounds_of, in_pairs, new_words, IsLent};
+ghost use Rattle.gate.specs.Meaning.{window_of, grounds_of, in_pairs, words_of, IsLent};
 
 use kinds::admits;
 use layout::{facility, time};
@@ -41,100 +41,32 @@ pub struct Grounds {
     pub status: Window,
 }
 
-// A filing inside gate closure: the service and the period of its offer, and the reason it gives.
+// A filing inside gate closure: the service and the period of its offer, and the reason that it gives.
 #[derive(Clone, Copy, Debug, PartialEq, Eq)]
 pub struct Filing {
     pub service: u8,
     pub period: u64,
     pub reason: u8,
-    pub ghost is_period: { period < 2147483648 },
+    pub ghost period_fits: { period < 2147483648 },
 }
 
-// The offer that will stand: the filed one, whose blanks come last, or where a variation is taken back a held one, or none.
+// An offer, lent as its pairs' words: price, quantity, price, quantity ..
 #[derive(Clone, Copy, Debug)]
-pub enum New<'a> {
+pub enum Offer<'a> {
+    // All ten pairs, of which "all non-blank pairs come first".
     Filed(&'a [i32; 20]),
+    // "A held offer, which may be older": as many pairs as there are, none where there is no offer, and blanks anywhere.
     Held(&'a [i32]),
 }
 
-// Pairs of an offer that are walked.
+// ---- how far an offer is walked
+
+// The pairs of an offer that are walked: its first ones, after which it has blanks alone.
 #[derive(Clone, Copy, Debug)]
 struct Walk<'a> {
     pairs: &'a [[i32; 2]],
-    ghost ten_at_most: { length pairs.now ≤ 10 },
+    ghost at_most_ten: { length pairs.now ≤ 10 },
 }
-
-// "a quantity below 0, which only a damaged book holds, counts as 0"
-fn tenths_of(pair: Pair) -> u64
-    ensures { (result ≡ tenths_of (pair_of pair)) × (result < 2147483648) }
-{
-    nat(pair.quantity.0)
-}
-
-// Two pairs differ where both have tenths left, a and b, at two prices: a blank pair's price is never compared.
-#[tactic(auto, using(crate::proofs::Words::equal_words))]
-fn differ(x: Pair, a: u64, y: Pair, b: u64) -> bool
-    ensures { result ≡ ((ltb 0 a && ltb 0 b) && not (eq_z x.price.0 y.price.0)) }
-{
-    0 < a && 0 < b && x.price != y.price
-}
-
-impl Walk<'_> {
-    #[tactic(auto, using(crate::proofs::Words::total_from, crate::proofs::Words::total_at_end))]
-    fn total_tenths(self) -> u64
-        ensures { (result ≡ total_tenths (in_pairs self.entry.pairs.now)) × (result ≤ 21474836480) }
-    {
-        let mut total = 0;
-        for words in self.pairs {
-            total += tenths_of(Pair::from(*words));
-        }
-        total
-    }
-
-    // The lowest n from 1 to the smaller total whose tenth differs in price. A step passes the pair with fewer tenths left, or both
-    // where they are as many: an offer that only adds to old is walked through in as many steps as it has pairs.
-    #[tactic(auto, using(crate::proofs::Steps::old_ended, crate::proofs::Steps::new_ended))]
-    fn first_differing_tenth(self, new: Walk) -> Option<u64>
-        ensures { result ≡ tenth_or_none (first_differing (in_pairs self.entry.pairs.now) (in_pairs new.entry.pairs.now)) }
-    {
-        let mut old = self.pairs;
-        let mut new = new.pairs;
-        let mut old_used = 0;
-        let mut new_used = 0;
-        let mut passed = 0;
-        while let ([x, old_rest @ ..], [y, new_rest @ ..]) = (old, new) {
-            let x = Pair::from(*x);
-            let y = Pair::from(*y);
-            let a = tenths_of(x).saturating_sub(old_used);
-            let b = tenths_of(y).saturating_sub(new_used);
-            if differ(x, a, y, b) {
-                return Some(passed + 1);
-            }
-            if a == b {
-                (old, old_used) = (old_rest, 0);
-                (new, new_used) = (new_rest, 0);
-            } else if a < b {
-                (old, old_used) = (old_rest, 0);
-                new_used += a;
-            } else {
-                old_used += b;
-                (new, new_used) = (new_rest, 0);
-            }
-            passed += a.min(b);
-        }
-        None
-    }
-
-    // "for every n from 1 to the smaller total, the n-th tenth .. has the same price in old and new"
-    #[tactic(auto, using(crate::proofs::Runs::found_where_prices_differ))]
-    fn same_prices(self, new: Walk) -> bool
-        ensures { result ≡ same_prices (in_pairs self.entry.pairs.now) (in_pairs new.entry.pairs.now) }
-    {
-        self.first_differing_tenth(new).is_none()
-    }
-}
-
-// ---- how far an offer is walked
 
 // How many pairs stand before the first blank.
 fn filled_count(pairs: &[[i32; 2]]) -> usize
@@ -168,7 +100,7 @@ fn filed_walk(words: &[i32; 20]) -> Walk<'_>
     }
 }
 
-// "A held offer, which may be older, is still walked to its last pair", whatever blanks stand before that; those after it hold no tenths.
+// A held offer "is still walked to its last pair", whatever blanks stand before that; those after it hold no tenths.
 fn held_walk(words: &[i32]) -> Walk<'_>
     requires { length words.now ≤ 20 }
     ensures { BlanksAfter (in_pairs result.pairs.now) (pairs_in words.now) }
@@ -180,15 +112,94 @@ fn held_walk(words: &[i32]) -> Walk<'_>
     }
 }
 
-impl<'a> New<'a> {
+impl<'a> Offer<'a> {
     fn walk(self) -> Walk<'a>
         requires { IsLent self }
-        ensures { BlanksAfter (in_pairs result.pairs.now) (pairs_in (new_words self.entry)) }
+        ensures { BlanksAfter (in_pairs result.pairs.now) (pairs_in (words_of self.entry)) }
     {
         match self {
-            New::Filed(words) => filed_walk(words),
-            New::Held(words) => held_walk(words),
+            Offer::Filed(words) => filed_walk(words),
+            Offer::Held(words) => held_walk(words),
         }
+    }
+}
+
+// ---- tenth by tenth
+
+// "a quantity below 0, which only a damaged book holds, counts as 0"
+fn tenths_of(pair: Pair) -> u64
+    ensures { (result ≡ tenths_of (pair_of pair)) × (result < 2147483648) }
+{
+    nat(pair.quantity.0)
+}
+
+// A pair read word by word: from a copy of both, which is read as one word of 64 bits, the merge takes a tenth longer.
+fn read_pair(words: &[i32; 2]) -> Pair
+    ensures { result ≡ typed words.now }
+{
+    let [price, quantity] = words;
+    Pair::from([*price, *quantity])
+}
+
+// Two pairs differ where both have tenths left, a and b, at two prices: a blank pair's price is never compared.
+#[tactic(auto, using(crate::proofs::Words::equal_words))]
+fn differ(x: Pair, a: u64, y: Pair, b: u64) -> bool
+    ensures { result ≡ ((ltb 0 a && ltb 0 b) && not (eq_z x.price.0 y.price.0)) }
+{
+    0 < a && 0 < b && x.price != y.price
+}
+
+impl Walk<'_> {
+    #[tactic(auto, using(crate::proofs::Words::total_from, crate::proofs::Words::total_at_end))]
+    fn total_tenths(self) -> u64
+        ensures { (result ≡ total_tenths (in_pairs self.entry.pairs.now)) × (result ≤ 21474836480) }
+    {
+        let mut total = 0;
+        for words in self.pairs {
+            total += tenths_of(Pair::from(*words));
+        }
+        total
+    }
+
+    // The lowest n from 1 to the smaller total whose tenth differs in price.
+    // A step passes the pair with fewer tenths left, a of old's or b of new's, or both where they are as many: an offer that only adds to old is walked through
+    // in as many steps as it has pairs.
+    #[tactic(auto, using(crate::proofs::Steps::old_ended, crate::proofs::Steps::new_ended))]
+    fn first_differing_tenth(self, new: Walk) -> Option<u64>
+        ensures { result ≡ tenth_or_none (first_differing (in_pairs self.entry.pairs.now) (in_pairs new.entry.pairs.now)) }
+    {
+        let (mut old, mut old_used) = (self.pairs, 0);
+        let (mut new, mut new_used) = (new.pairs, 0);
+        let mut passed = 0;
+        while let ([x, ..], [y, ..]) = (old, new) {
+            let x = read_pair(x);
+            let y = read_pair(y);
+            let a = tenths_of(x).saturating_sub(old_used);
+            let b = tenths_of(y).saturating_sub(new_used);
+            if differ(x, a, y, b) {
+                return Some(passed + 1);
+            }
+            if a == b {
+                (old, old_used) = (&old[1..], 0);
+                (new, new_used) = (&new[1..], 0);
+            } else if a < b {
+                (old, old_used) = (&old[1..], 0);
+                new_used += a;
+            } else {
+                old_used += b;
+                (new, new_used) = (&new[1..], 0);
+            }
+            passed += a.min(b);
+        }
+        None
+    }
+
+    // "for every n from 1 to the smaller total, the n-th tenth .. has the same price in old and new"
+    #[tactic(auto, using(crate::proofs::Runs::found_where_prices_differ))]
+    fn same_prices(self, new: Walk) -> bool
+        ensures { result ≡ same_prices (in_pairs self.entry.pairs.now) (in_pairs new.entry.pairs.now) }
+    {
+        self.first_differing_tenth(new).is_none()
     }
 }
 
@@ -210,8 +221,7 @@ fn admits_service(service: u8, reason: u8) -> bool
 fn is_period_covered(g: Grounds, filing: Filing) -> bool
     ensures { result ≡ period_covered (grounds_of g) filing.period filing.reason }
 {
-    let period = filing.period;
-    let reason = filing.reason;
+    let Filing { period, reason, .. } = filing;
     match reason {
         2 | 6 => g.outage.covers(period),
         3 => g.surplus.covers(period),
@@ -221,7 +231,7 @@ fn is_period_covered(g: Grounds, filing: Filing) -> bool
     }
 }
 
-// What it asks of the totals of old and new, for which every pair lent is read.
+// What it asks of the totals of old and new, for which every pair that is walked is read.
 #[tactic(auto, unfolding(offer_rules::specs::Gate::total_moved))]
 fn is_total_moved(reason: u8, old: Walk, new: Walk) -> bool
     ensures { result ≡ total_moved reason (total_tenths (in_pairs old.entry.pairs.now)) (total_tenths (in_pairs new.entry.pairs.now)) }
@@ -250,15 +260,16 @@ fn is_admitted(g: Grounds, filing: Filing) -> bool
         && is_period_covered(g, filing)
 }
 
-// Whether a filing inside gate closure is excepted, of a variation and of a standing offer over a held one; old holds no pairs where no offer is in force.
-pub fn is_excepted(g: Grounds, filing: Filing, old: &[i32], new: New) -> bool
+// Whether a filing inside gate closure is excepted, of a variation and of a standing offer over a held one; old holds no pairs where no offer is in force. New is the
+// filed one, or where a variation is taken back a held one, or none.
+pub fn is_excepted(g: Grounds, filing: Filing, old: &[i32], new: Offer) -> bool
     requires { (length old.now ≤ 20) × IsLent new }
-    ensures { result ≡ is_excepted (grounds_of g) filing.service filing.period filing.reason (pairs_in old.now) (pairs_in (new_words new.entry)) }
+    ensures { result ≡ is_excepted (grounds_of g) filing.service filing.period filing.reason (pairs_in old.now) (pairs_in (words_of new.entry)) }
 {
     if !is_admitted(g, filing) {
         return false;
     }
-    let before = held_walk(old);
+    let before = Offer::Held(old).walk();
     let after = new.walk();
     is_total_moved(filing.reason, before, after) && before.same_prices(after)
 }

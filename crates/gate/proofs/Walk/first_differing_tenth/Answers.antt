@@ -1,5 +1,4 @@
-use Rattle.std.proofs.Common.{◌≡◌, ◌<◌, ◌≤◌, ◌-◌, ◌+◌, true, false, not, ap, sym, length, ◌∙◌, rules, arith, add-one, take, drop, length-drop}
-use Rattle.offer_rules.specs.Gate.{tenths_of}
+use Rattle.std.proofs.Common.{◌≡◌, ◌<◌, ◌+◌, ◌-◌, true, false, ap, sym, length, ◌∙◌, rules, arith, add-one, take, drop, length-drop}
 use Rattle.gate.specs.Differing.{tenth_or_none}
 use Rattle.gate.specs.Meaning.{in_pairs}
 use Rattle.gate.proofs.Steps.{start_is_whole, left_old, left_new, first_differ, differing, past_old, past_new, past_both}
@@ -30,16 +29,18 @@ loop-old-preserved c =
     let os = length-drop 1 s.old.now in
     let ns = length-drop 1 s.new.now in
     elim c.if-a-b.branch [
-      then-a-b w ↦
+      | then-a-b w ↦
           let e = past_both s.old.now s.new.now s.old_used s.new_used s.passed h k f (omega arith) in
           let m : c.min-passed.result ≡ left_old s.old.now s.new.now s.old_used s.new_used s.passed = omega arith in
           rw (w.old-is, w.new-is, w.old_used-is, w.new_used-is, o, n, m) (omega arith, omega arith, omega arith, e ∙ s.invariant.3)
-    | else-a-b+then-a-b-2 w ↦
+      | else-a-b+then-a-b-2 w ↦
           let e = past_old s.old.now s.new.now s.old_used s.new_used s.passed h k f (omega arith) in
           let m : c.min-passed.result ≡ left_old s.old.now s.new.now s.old_used s.new_used s.passed = omega arith in
-          rw (w.old-is, w.new-is, w.old_used-is, w.new_used-is, o, m, a) (omega arith, omega arith, omega arith, e ∙ s.invariant.3)
-    | else-a-b+else-a-b-2 w ↦
+          let u : c.if-a-b.new_used ≡ s.new_used + left_old s.old.now s.new.now s.old_used s.new_used s.passed = omega arith in
+          rw (w.old-is, w.new-is, w.old_used-is, u, o, m) (omega arith, omega arith, omega arith, e ∙ s.invariant.3)
+      | else-a-b+else-a-b-2 w ↦
           let e = past_new s.old.now s.new.now s.old_used s.new_used s.passed h k f (omega arith) in
           let m : c.min-passed.result ≡ left_new s.old.now s.new.now s.old_used s.new_used s.passed = omega arith in
-          rw (w.old-is, w.new-is, w.old_used-is, w.new_used-is, n, m, b) (omega arith, omega arith, omega arith, e ∙ s.invariant.3)
+          let u : c.if-a-b.old_used ≡ s.old_used + left_new s.old.now s.new.now s.old_used s.new_used s.passed = omega arith in
+          rw (w.old-is, w.new-is, w.new_used-is, u, n, m) (omega arith, omega arith, omega arith, e ∙ s.invariant.3)
     ]
