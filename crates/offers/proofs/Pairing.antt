@@ -54,12 +54,7 @@ unfolding sum_of
 sum_whole s ws i h = rw (drop_of_length-le ws h) (+ℤ_idr s)
 
 -- an offer's pairs are all blank where its first one is
-first_pair : (o : List ℤ) → length o ≡ 23 → pairs o ≡ pair_at (drop 3 o) 0 ∷ pairs_in (drop 2 (drop 3 o))
-unfolding pairs
-first_pair o h = pairs_from (drop 3 o) 0 (rw (length-drop 3 o) (omega arith))
-
-pub told_by_first : (o : List ℤ) → length o ≡ 23 → BlanksLast (pairs o) → eq_z (word o 4) (pos 0) ≡ all_blank (pairs o)
-unfolding is_blank
-told_by_first o h last =
-    let e = first_pair o h in
-    sym (ap all_blank e ∙ first_tells (pair_at (drop 3 o) 0) (pairs_in (drop 2 (drop 3 o))) (rw e at last) ∙ ap (λ (z : ℤ). eq_z z (pos 0)) (get_or-drop 3 o 1 (pos 0)))
+pub told_by_first : (ws : List (List ℤ)) (l : List rule.Pair) → pairs_of ws ≡ l → 0 < length ws → BlanksLast l → is_blank (pair_of (typed (get_or ws 0 []))) ≡ all_blank l
+told_by_first ws l e h last =
+    let next : l ≡ pair_of (typed (get_or ws 0 [])) ∷ pairs_of (drop 1 ws) = sym e ∙ pair_next ws 0 h in
+    sym (ap all_blank next ∙ first_tells (pair_of (typed (get_or ws 0 []))) (pairs_of (drop 1 ws)) (rw next at last))

@@ -500,7 +500,7 @@ module _ (ws : List (List ℤ)) (l : List Pair) (e : pairs_of ws ≡ l) (from : 
       let a = take (to - from) (drop from ws) in
       let b = drop (to - from) (drop from ws) in
       let after : pairs_of b ≡ drop to l =
-          ap pairs_of (drop-drop (to - from) from ws) ∙ rw there (sym (drop-map (λ words. pair_of (typed words)) to ws) ∙ ap (drop to) e)
+      ap pairs_of (drop-drop (to - from) from ws) ∙ rw there (sym (drop-map (λ words. pair_of (typed words)) to ws) ∙ ap (drop to) e)
       in
       all_tested a
       ∙ then_empty (pairs_of a) (pairs_of b) (ap all_empty after ∙ empty)
