@@ -1,14 +1,12 @@
 -- An offer's words as pairs, and quantities added pair by pair.
-use Rattle.std.proofs.Common.{◌≡◌, refl, sym, ap, ap₂, ◌∙◌, List, [], ◌∷◌, ℕ, suc, ◌+◌, ◌-◌, ◌*◌, ◌/◌, ◌<◌, ◌≤◌, length, get_or, take, drop, length-drop, drop-cons, ℤ, pos, ◌+ℤ◌, add-one, arith}
+use Rattle.std.proofs.Common.{◌≡◌, refl, sym, ap, ap₂, ◌∙◌, List, [], ◌∷◌, ℕ, suc, ◌+◌, ◌-◌, ◌*◌, ◌/◌, ◌<◌, ◌≤◌, length, get_or, take, drop, length-drop, drop-cons, ℤ, ◌+ℤ◌, add-one, arith}
 use Rattle.std.proofs.Math.ListN.{drop_of_length-le}
-use Rattle.std.proofs.lemmas.List.{get_or-drop}
 use lib.Seq.{take_all}
 use lib.IntN.{+ℤ_assoc, +ℤ_idr}
-use Rattle.offer_rules.specs.Numbers.{eq_z, word}
+use Rattle.offer_rules.specs.Numbers.{word}
 use Rattle.offer_rules.specs.Offer as rule
 use Rattle.offer_rules.specs.Offer.{pairs_in, pairs, is_blank, all_blank, BlanksLast, sum_of}
 use Rattle.offer_rules.proofs.Blanks.{first_tells}
-use Rattle.offer_rules.proofs.Pairs.{pairs_from}
 use Rattle.units.specs.Typed.{typed, pair_of, pair_at}
 use Rattle.units.specs.declared.Pair.{Pair}
 use Rattle.offers.specs.PairTests.{pairs_of}

@@ -1,4 +1,4 @@
-use Rattle.std.proofs.Common.{rules, arith, ap, ◌∙◌}
+use Rattle.std.proofs.Common.{arith, ap, ◌∙◌}
 use Rattle.offer_rules.specs.Offer.{pairs, is_blank}
 use Rattle.units.specs.Typed.{pair_of}
 use Rattle.offers.proofs.Pairing.{told_by_first}

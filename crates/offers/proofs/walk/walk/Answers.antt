@@ -1,10 +1,8 @@
-use Rattle.std.proofs.Common.{arith, rules, sym, ap, ◌≡◌, ◌∙◌, ◌+◌, true, false, drop}
+use Rattle.std.proofs.Common.{arith, rules, sym, ap, ◌≡◌, ◌∙◌, ◌+◌, drop}
 use mir.Syntax.{w32}
 use mir.Val.{SFits}
 use lib.Signed.{nat_abs-le}
-use Rattle.units.specs.Typed.{typed, pair_of}
-use Rattle.offer_rules.specs.Offer.{is_blank}
-use Rattle.offers.specs.PairTests.{pairs_of, pair_is_out, with_filled, found_from}
+use Rattle.offers.specs.PairTests.{pairs_of, with_filled, found_from}
 use Rattle.offers.proofs.Walks.{none_left, ends_here, stops_here, goes_on_here, total_grows}
 use Rattle.offers.proofs.walk.walk.Goals as goal
 

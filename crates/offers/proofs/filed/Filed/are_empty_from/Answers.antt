@@ -1,4 +1,4 @@
-use Rattle.std.proofs.Common.{rules, tests, arith, ◌∙◌, ◌≡◌, ◌≤◌, sym}
+use Rattle.std.proofs.Common.{rules, tests, arith, ◌∙◌, ◌≡◌, sym}
 use borrow.Author.Tests.{le-leb}
 use Rattle.std.proofs.lemmas.Iterator.{YieldsList-from_slice}
 use Rattle.std.proofs.lemmas.Iterator.Search.{all_from_yields_List}
