@@ -1,5 +1,5 @@
 -- Each number where it is drawn; none above 16; and where none is drawn, what the test of the pairs promises.
-use Rattle.std.proofs.Common.{rules, arith, ap, sym, refl, ◌≡◌, ◌∙◌, ◌≤◌, ℕ, ℤ, List, Result, Ok, Err}
+use Rattle.std.proofs.Common.{rules, arith, ap, sym, refl, ◌≡◌, ◌∙◌, ◌≤◌, ℕ, ℤ, List, Result, Err}
 use Rattle.offer_rules.specs.Offer.{pairs, BlanksLast, offer_number}
 use Rattle.layout.specs.Refusal.{number, drawn}
 use Rattle.layout.specs.declared.refusal.Refusal.{Refusal}

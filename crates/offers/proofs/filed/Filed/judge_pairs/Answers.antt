@@ -1,6 +1,5 @@
 -- Out of range before the first blank; not empty from it on; not rising before it; or none of these.
-use Rattle.std.proofs.Common.{rules, ap, sym, ◌≡◌, ◌∙◌, not, Err}
-use borrow.Author.Tests.{not-true, not-false}
+use Rattle.std.proofs.Common.{rules, ap, sym, ◌≡◌, ◌∙◌, Err}
 use Rattle.offer_rules.specs.Numbers.{draw}
 use Rattle.offer_rules.specs.Offer.{pairs}
 use Rattle.layout.specs.Refusal.{drawn}
