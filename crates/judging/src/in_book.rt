@@ -7,10 +7,10 @@ ghost use Rattle.layout.specs.Refusal.{drawn};
 ghost use Rattle.book_rules.specs.Words.{part, clock_place, facility_place};
 ghost use Rattle.book_rules.specs.Refusals.{facility_number, gate_number, grounds};
 ghost use Rattle.book_rules.specs.Book.{facilities_in, book_view};
-ghost use Rattle.gate.specs.Meaning.{grounds_of, new_words, IsLent};
+ghost use Rattle.gate.specs.Meaning.{grounds_of, words_of, IsLent};
 
 use crate::words::Book;
-use gate::{Filing, Grounds, New, is_excepted};
+use gate::{Filing, Grounds, Offer, is_excepted};
 use layout::{Refusal, facility, head, refuse_if};
 
 #[derive(Clone, Copy)]
@@ -66,12 +66,12 @@ impl<'a> Facility<'a> {
         &self,
         filing: Filing,
         old: &[i32],
-        new: New<'_>,
+        new: Offer<'_>,
     ) -> Result<(), Refusal>
         requires ten { length old.now ≤ 20 }
         requires lent { IsLent new }
         requires shut { is_open (to_nat (word self.now.book.words.now clock_place)) filing.period ≡ false }
-        ensures number { drawn result ≡ gate_number (to_nat (word self.now.book.words.now clock_place)) (grounds (book_view self.now.book.words.now) self.now.f) filing.service filing.period filing.reason (pairs_in old.now) (pairs_in (new_words new.entry)) }
+        ensures number { drawn result ≡ gate_number (to_nat (word self.now.book.words.now clock_place)) (grounds (book_view self.now.book.words.now) self.now.f) filing.service filing.period filing.reason (pairs_in old.now) (pairs_in (words_of new.entry)) }
         ensures bound { drawn result ≤ 17 }
     {
         let excepted = is_excepted(self.grounds(), filing, old, new);

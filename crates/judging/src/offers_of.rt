@@ -10,13 +10,13 @@ ghost use Rattle.book_rules.specs.Force.{first_of, in_force, will_stand, pairs_o
 ghost use Rattle.book_rules.specs.Refusals.{gate_number, admission_number, revision_number, admitted_standing, grounds};
 ghost use Rattle.book_rules.specs.Book.{services_in, book_view};
 ghost use Rattle.offers.specs.PairTests.{UsesFive};
-ghost use Rattle.gate.specs.Meaning.{new_words, IsLent};
+ghost use Rattle.gate.specs.Meaning.{words_of, IsLent};
 ghost use Rattle.cells.specs.Meaning.{held_by};
 
 use crate::filed::Passed;
 use crate::in_book::Facility;
 use cells::Cell;
-use gate::{Filing, New};
+use gate::{Filing, Offer};
 use layout::{Refusal, cell, offer, refuse_if};
 
 #[derive(Clone, Copy)]
@@ -72,18 +72,18 @@ impl<'a> Series<'a> {
 
     // "the offer that will stand afterwards": the filed one, or where it is all blank the slot's standing offer, or none where none is held.
     #[tactic(auto, using(offer_rules::proofs::Blanks::none_before), unfolding(offer_rules::specs::Offer::pairs_in, offer_rules::specs::Offer::pairs, book_rules::specs::Force::pairs_of, book_rules::specs::Force::first_of, book_rules::specs::Force::variation_made, book_rules::specs::Force::will_stand))]
-    fn afterwards<'b>(&'b self, period: usize, filed: Passed<'b>) -> New<'b>
+    fn afterwards<'b>(&'b self, period: usize, filed: Passed<'b>) -> Offer<'b>
         ensures lent { IsLent result }
-        ensures pairs { pairs_in (new_words result) ≡ pairs_of (will_stand (book_view self.now.facility.book.words.now) self.now.facility.f self.now.service period filed.entry.offer.now) }
+        ensures pairs { pairs_in (words_of result) ≡ pairs_of (will_stand (book_view self.now.facility.book.words.now) self.now.facility.f self.now.service period filed.entry.offer.now) }
     {
         if !filed.is_all_blank() {
-            return New::Filed(filed.pairs());
+            return Offer::Filed(filed.pairs());
         }
         let cells = self.facility.book.cells();
         let slot = period % cell::SLOTS;
         match cells.held_standing(self.facility.f, usize::from(self.service), slot) {
-            Some(held) => New::Held(held.pairs()),
-            None => New::Held(&[]),
+            Some(held) => Offer::Held(held.pairs()),
+            None => Offer::Held(&[]),
         }
     }
 
@@ -132,7 +132,7 @@ impl<'a> Series<'a> {
             return Ok(());
         }
         let old = held.pairs();
-        self.facility.check_gate(filing, old, New::Filed(filed.pairs()))
+        self.facility.check_gate(filing, old, Offer::Filed(filed.pairs()))
     }
 
     // 17, then 18 where it is equal to the held one. "A first one always passes the gate."

@@ -15,12 +15,23 @@ use opening::open;
 // An answer's numbers: its number, 24 words, its sum.
 const NUMBERS: usize = 26;
 
+fn widened(words: &[i32; 24]) -> [i64; 24]
+    ensures { result ≡ words.now }
+{
+    // A loop by place: of what is written through `iter_mut().zip` nothing is known afterwards, and of what `map` gives no word's range.
+    let mut wide = [0; 24];
+    for (i, word) in words.iter().enumerate() {
+        wide[i] = i64::from(*word);
+    }
+    wide
+}
+
 fn numbers(answer: Answer) -> [i64; NUMBERS]
     ensures { result ≡ numbers_of (answer_of answer) }
 {
     let mut numbers = [0; NUMBERS];
     numbers[0] = i64::from(answer.number);
-    numbers[1..25].copy_from_slice(&answer.words.map(|word| i64::from(word)));
+    numbers[1..25].copy_from_slice(&widened(&answer.words));
     numbers[25] = answer.sum;
     numbers
 }
