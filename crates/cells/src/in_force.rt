@@ -7,6 +7,7 @@ ghost use Rattle.book_rules.specs.Force.{pairs_of, counted, offered, found, foun
 ghost use Rattle.cells.specs.Meaning.{cell_of, meaning, answer_of};
 
 use crate::answers::Answer;
+use crate::copying::copy_words;
 use crate::held::Cell;
 use layout::{answer, time};
 
@@ -71,7 +72,7 @@ impl<'a> InForce<'a> {
         words[answer::PROPORTION] = terms.proportion;
         words[answer::RAMP_UP] = terms.up;
         words[answer::RAMP_DOWN] = terms.down;
-        words[answer::PAIRS..].copy_from_slice(cell.pairs());
+        copy_words(&mut words[answer::PAIRS..], cell.pairs());
         Answer {
             number: 0,
             words,

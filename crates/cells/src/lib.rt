@@ -3,6 +3,7 @@
 #![tactic(auto)]
 
 mod answers;
+mod copying;
 mod filing;
 mod held;
 mod in_force;

@@ -29,14 +29,16 @@ pub struct CellPlace {
 }
 
 impl CellPlace {
-    // "numbered ((f·S + s)·2 + h)·336 + slot"
+    // "numbered ((f·S + s)·2 + h)·336 + slot": added up by services, so that the two cells of a slot lie a constant apart in a total's loop.
     #[tactic(auto, unfolding(book_rules::specs::Words::cell_place))]
     pub(crate) fn start(self, facilities: usize, services: usize) -> usize
         requires { (facilities ≤ 64) × (services ≤ 5) × (self.f < facilities) × (self.s < services) × (self.slot < 336) }
         ensures place { result ≡ cell_place facilities services self.f self.s (half_number self.half) self.slot }
         ensures room { result + 24 ≤ book_size facilities services }
     {
-        let half = (self.f * services + self.s) * 2 + self.half.number();
-        head::WORDS + facility::WORDS * facilities + cell::WORDS * (half * cell::SLOTS + self.slot)
+        head::WORDS
+            + facility::WORDS * facilities
+            + cell::SERVICE_WORDS * (self.f * services + self.s)
+            + cell::WORDS * (self.half.number() * cell::SLOTS + self.slot)
     }
 }

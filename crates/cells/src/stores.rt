@@ -5,6 +5,7 @@ ghost use Rattle.offer_rules.specs.Offer.{accepted_at, most_ramp};
 ghost use Rattle.book_rules.specs.Words.{put, cell_place, packed_ramps, ramps_fit, cell};
 ghost use Rattle.cells.specs.Meaning.{Sized, half_number};
 
+use crate::copying::copy_words;
 use crate::filing::Filing;
 use crate::held::pairs_of;
 use crate::places::CellPlace;
@@ -30,7 +31,7 @@ fn write_cell(words: &mut [i32], filing: Filing<'_>)
     words[cell::PROPORTION] = offer[offer::PROPORTION];
     words[cell::RAMPS] = packed_ramps(offer[offer::RAMP_UP], offer[offer::RAMP_DOWN]);
     words[cell::MINUTE] = filing.minute as i32;
-    words[cell::PAIRS..cell::WORDS].copy_from_slice(pairs_of(offer));
+    copy_words(&mut words[cell::PAIRS..cell::WORDS], pairs_of(offer));
 }
 
 // "An accepted offer writes one cell's 24 words and no other word."
@@ -52,10 +53,9 @@ pub fn store_offer(
 
 // "Other accepted calls write only the fields they carry."
 #[tactic(auto, unfolding(book_rules::specs::Words::put))]
-pub fn store_words(book: &mut [i32], at: usize, words: &[i32])
-    requires { at + length words.now ≤ length book.old }
+pub fn store_words<const N: usize>(book: &mut [i32], at: usize, words: &[i32; N])
+    requires { at + N ≤ length book.old }
     ensures { book.new ≡ put book.old at words.now }
 {
-    let end = at + words.len();
-    book[at..end].copy_from_slice(words);
+    copy_words(&mut book[at..at + N], words);
 }

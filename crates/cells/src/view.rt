@@ -30,7 +30,7 @@ impl<'a> Cells<'a> {
     {
         let at = place.start(self.facilities, self.services);
         Cell {
-            words: self.words[at..].first_chunk().unwrap(),
+            words: self.words[at..at + cell::WORDS].as_array().unwrap(),
         }
     }
 
