@@ -2,7 +2,7 @@
 -- and the sizes that the book's words show.
 use Rattle.std.specs.Prelude.{◌≡◌, List, ℕ, ◌≤◌, ℤ, length, Option, None, Some}
 use Rattle.std.proofs.Math.Option as math
-use Rattle.offer_rules.specs.Offer.{pairs, Held, sum_of}
+use Rattle.offer_rules.specs.Offer.{Held}
 use Rattle.book_rules.specs.Words.{book_size, cell_held, standing_half, variation_half}
 use Rattle.book_rules.specs.Force as force
 use Rattle.book_rules.specs.Book.{facilities_in, services_in}
@@ -48,8 +48,3 @@ pub record Sized (w : List ℤ) (facilities services : ℕ) : Type 0 where
 -- The code's answer as the rule's: number, 24 words, sum.
 abbrev pub answer_of : Answer → force.Answer
 answer_of r = record { number = r.number; words = r.words; sum = r.sum }
-
--- Word 0, fresh or not, then the offer's words; "sum: its ten quantities added".
-abbrev pub found_in : Cell → ℕ → ℤ → ℤ → force.Answer
-found_in c now fresh settled =
-    record { number = 0; words = force.shown_at now fresh settled (held_by c); sum = sum_of (pairs (held_by c).offer) }

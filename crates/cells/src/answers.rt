@@ -6,9 +6,9 @@ ghost use Rattle.cells.specs.Meaning.{answer_of};
 
 use layout::Refusal;
 
-// "Each call returns a number, 24 words and a sum (signed 64-bit)."
+// "Each call returns a number, 24 words and a sum (signed 64-bit)." Laid out for C, so no Result.
 #[repr(C)]
-#[derive(Clone, Copy)]
+#[derive(Clone, Copy, Debug, PartialEq, Eq)]
 pub struct Answer {
     pub number: u32,
     pub words: [i32; 24],

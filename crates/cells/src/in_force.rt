@@ -82,34 +82,27 @@ impl<'a> InForce<'a> {
 }
 
 // Offers in force: how many, and their quantities added.
-#[derive(Clone, Copy)]
+#[derive(Clone, Copy, Default)]
 pub(crate) struct Tally {
     pub count: u32,
     pub sum: i64,
 }
 
 impl Tally {
-    // One facility's.
-    #[tactic(auto, unfolding(offer_rules::specs::Offer::sum_of, book_rules::specs::Force::counted, book_rules::specs::Force::pairs_of))]
-    pub(crate) fn of(offer: Option<InForce<'_>>) -> Tally
-        ensures { (result.count ≡ counted (meaning offer.entry)) × (result.sum ≡ offered (meaning offer.entry)) × (result.count ≤ 1) × (nat_abs result.sum ≤ 21474836480) }
+    // One facility more.
+    #[tactic(auto, using(units::proofs::Adding::abs_add), unfolding(offer_rules::specs::Offer::sum_of, book_rules::specs::Force::counted, book_rules::specs::Force::pairs_of))]
+    pub(crate) fn with(self, offer: Option<InForce<'_>>) -> Tally
+        requires { (self.count < 64) × (nat_abs self.sum ≤ 1374389534720) }
+        ensures count { result.count ≡ self.count + counted (meaning offer.entry) }
+        ensures sum { result.sum ≡ self.sum +ℤ offered (meaning offer.entry) }
+        ensures bounds { (result.count ≤ self.count + 1) × (nat_abs result.sum ≤ nat_abs self.sum + 21474836480) }
     {
         match offer {
-            None => Tally { count: 0, sum: 0 },
+            None => self,
             Some(offer) => Tally {
-                count: 1,
-                sum: offer.cell().total(),
+                count: self.count + 1,
+                sum: self.sum + offer.cell().total(),
             },
-        }
-    }
-
-    pub(crate) fn plus(self, other: Tally) -> Tally
-        requires { (self.count < 64) × (other.count ≤ 1) × (nat_abs self.sum ≤ 1374389534720) × (nat_abs other.sum ≤ 21474836480) }
-        ensures { (result.count ≡ self.count + other.count) × (result.sum ≡ self.sum +ℤ other.sum) }
-    {
-        Tally {
-            count: self.count + other.count,
-            sum: self.sum + other.sum,
         }
     }
 }

@@ -20,7 +20,7 @@ fn packed_ramps(up: i32, down: i32) -> i32
 }
 
 // "0 stamp (0 empty, 1 standing, P + 1 variation), 1 proportion, .. 4–23 pairs"; "word 3 the minute"
-#[tactic(auto, using(crate::proofs::Putting::cell_written), unfolding(offer_rules::specs::Numbers::any_beyond, book_rules::specs::Words::cell))]
+#[tactic(auto, unfolding(offer_rules::specs::Numbers::any_beyond))]
 fn write_cell(words: &mut [i32], filing: Filing<'_>)
     requires { length words.old ≡ 24 }
     ensures long { length words.new ≡ 24 }
@@ -51,7 +51,7 @@ pub fn store_offer(
     write_cell(&mut book[at..end], filing);
 }
 
-// "Other accepted calls write only the fields they carry."
+// "Other accepted calls write only the fields they carry." Over arrays, so that one, two or 17 words are each written at once.
 #[tactic(auto, unfolding(book_rules::specs::Words::put))]
 pub fn store_words<const N: usize>(book: &mut [i32], at: usize, words: &[i32; N])
     requires { at + N ≤ length book.old }

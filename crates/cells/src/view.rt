@@ -12,6 +12,7 @@ use crate::places::{CellPlace, Half};
 use layout::cell;
 
 // A book's words, and F and S as they hold them.
+// f and s stay parameters: a total counts through f, and what has both has tested them.
 #[derive(Clone, Copy)]
 pub struct Cells<'a> {
     pub words: &'a [i32],
@@ -75,9 +76,10 @@ impl<'a> Cells<'a> {
         requires { (s < self.now.services) × (period < 2147483647) }
         ensures { answer_of result ≡ total_reply (book_view self.now.words.now) s period }
     {
-        let mut t = Tally { count: 0, sum: 0 };
+        let mut t = Tally::default();
+        // Facility numbers are values here: no slice is indexed by them.
         for f in 0..self.facilities {
-            t = t.plus(Tally::of(self.in_force(f, s, period)));
+            t = t.with(self.in_force(f, s, period));
         }
         let mut words = [0; 24];
         words[0] = t.count as i32;
