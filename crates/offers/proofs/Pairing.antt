@@ -1,14 +1,12 @@
 -- An offer's words as pairs, and quantities added pair by pair.
-use Rattle.std.proofs.Common.{◌≡◌, refl, sym, ap, ap₂, ◌∙◌, List, [], ◌∷◌, ℕ, suc, ◌+◌, ◌-◌, ◌*◌, ◌/◌, ◌<◌, ◌≤◌, length, get_or, take, drop, length-drop, drop-cons, ℤ, pos, ◌+ℤ◌, add-one, arith}
+use Rattle.std.proofs.Common.{◌≡◌, refl, sym, ap, ap₂, ◌∙◌, List, [], ◌∷◌, ℕ, suc, ◌+◌, ◌-◌, ◌*◌, ◌/◌, ◌<◌, ◌≤◌, length, get_or, take, drop, length-drop, drop-cons, ℤ, ◌+ℤ◌, add-one, arith}
 use Rattle.std.proofs.Math.ListN.{drop_of_length-le}
-use Rattle.std.proofs.lemmas.List.{get_or-drop}
 use lib.Seq.{take_all}
 use lib.IntN.{+ℤ_assoc, +ℤ_idr}
-use Rattle.offer_rules.specs.Numbers.{eq_z, word}
+use Rattle.offer_rules.specs.Numbers.{word}
 use Rattle.offer_rules.specs.Offer as rule
 use Rattle.offer_rules.specs.Offer.{pairs_in, pairs, is_blank, all_blank, BlanksLast, sum_of}
 use Rattle.offer_rules.proofs.Blanks.{first_tells}
-use Rattle.offer_rules.proofs.Pairs.{pairs_from}
 use Rattle.units.specs.Typed.{typed, pair_of, pair_at}
 use Rattle.units.specs.declared.Pair.{Pair}
 use Rattle.offers.specs.PairTests.{pairs_of}
@@ -54,12 +52,7 @@ unfolding sum_of
 sum_whole s ws i h = rw (drop_of_length-le ws h) (+ℤ_idr s)
 
 -- an offer's pairs are all blank where its first one is
-first_pair : (o : List ℤ) → length o ≡ 23 → pairs o ≡ pair_at (drop 3 o) 0 ∷ pairs_in (drop 2 (drop 3 o))
-unfolding pairs
-first_pair o h = pairs_from (drop 3 o) 0 (rw (length-drop 3 o) (omega arith))
-
-pub told_by_first : (o : List ℤ) → length o ≡ 23 → BlanksLast (pairs o) → eq_z (word o 4) (pos 0) ≡ all_blank (pairs o)
-unfolding is_blank
-told_by_first o h last =
-    let e = first_pair o h in
-    sym (ap all_blank e ∙ first_tells (pair_at (drop 3 o) 0) (pairs_in (drop 2 (drop 3 o))) (rw e at last) ∙ ap (λ (z : ℤ). eq_z z (pos 0)) (get_or-drop 3 o 1 (pos 0)))
+pub told_by_first : (ws : List (List ℤ)) (l : List rule.Pair) → pairs_of ws ≡ l → 0 < length ws → BlanksLast l → is_blank (pair_of (typed (get_or ws 0 []))) ≡ all_blank l
+told_by_first ws l e h last =
+    let next : l ≡ pair_of (typed (get_or ws 0 [])) ∷ pairs_of (drop 1 ws) = sym e ∙ pair_next ws 0 h in
+    sym (ap all_blank next ∙ first_tells (pair_of (typed (get_or ws 0 []))) (pairs_of (drop 1 ws)) (rw next at last))

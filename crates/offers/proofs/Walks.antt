@@ -1,9 +1,9 @@
 -- What a walk finds of the pairs before the first blank, and what is tested of those from it on, give refusals 11 to 13.
-use Rattle.std.proofs.Common.{◌≡◌, refl, sym, ap, ap₂, ◌∙◌, Bool, true, false, not, cond, ◌&&◌, ◌||◌, List, [], ◌∷◌, ◌++◌, ℕ, zero, suc, ◌+◌, ◌-◌, ◌*◌, ◌<◌, ◌≤◌, ltb, eqb, length, get_or, take, drop, length-drop, length-take-le, drop-drop, take_all, ℤ, pos, nat_abs, ◌+ℤ◌, Option, Some, None, Result, Ok, Err, IfOk, arith}
+use Rattle.std.proofs.Common.{◌≡◌, refl, sym, ap, ap₂, ◌∙◌, Bool, true, false, not, cond, ◌&&◌, ◌||◌, List, [], ◌∷◌, ◌++◌, ℕ, zero, suc, ◌+◌, ◌-◌, ◌*◌, ◌<◌, ◌≤◌, eqb, length, get_or, take, drop, length-drop, length-take-le, drop-drop, take_all, ℤ, pos, nat_abs, ◌+ℤ◌, Option, Some, None, Result, Ok, Err, IfOk, arith}
 use Rattle.std.proofs.Math.ListN.{drop_of_length-le}
 use Rattle.std.proofs.lemmas.List.{map-append, take-append-drop, length-map, drop-map}
 use mathlib.Core.Bool.{and-true, true≢false, false≢true}
-use borrow.Author.Tests.{ltb-true, ltb-false, eqb-false, not-true, not-false}
+use borrow.Author.Tests.{ltb-false, eqb-false, not-true, not-false}
 use Rattle.std.specs.List.{list_all, list_any}
 use lib.Signed.{lt_z}
 use lib.IntN.{negsuc, +ℤ_assoc, +ℤ_idl, +ℤ_idr}
@@ -23,7 +23,7 @@ use Rattle.units.specs.declared.Quantity.{Quantity}
 use Rattle.units.proofs.Adding.{abs_add}
 use Rattle.offers.specs.declared.walk.Findings.{Findings}
 use Rattle.offers.proofs.Pairing.{pair_next}
-use Rattle.offers.specs.PairTests.{pairs_of, blank, pair_is_out, no_pair, is_empty, all_empty, is_above, still_rises, with_filled, none_yet, found_from, pairs_number, used_pairs, FiveUsed, UsesFive}
+use Rattle.offers.specs.PairTests.{pairs_of, blank, pair_is_out, no_pair, is_empty, all_empty, still_rises, with_filled, none_yet, found_from, pairs_number, used_pairs, UsesFive}
 
 pub total_grows : (f : Findings) (p : Price) (q : Quantity) → nat_abs (with_filled f p q).total.0 ≤ nat_abs f.total.0 + nat_abs q.0
 unfolding with_filled
@@ -500,7 +500,7 @@ module _ (ws : List (List ℤ)) (l : List Pair) (e : pairs_of ws ≡ l) (from : 
       let a = take (to - from) (drop from ws) in
       let b = drop (to - from) (drop from ws) in
       let after : pairs_of b ≡ drop to l =
-          ap pairs_of (drop-drop (to - from) from ws) ∙ rw there (sym (drop-map (λ words. pair_of (typed words)) to ws) ∙ ap (drop to) e)
+      ap pairs_of (drop-drop (to - from) from ws) ∙ rw there (sym (drop-map (λ words. pair_of (typed words)) to ws) ∙ ap (drop to) e)
       in
       all_tested a
       ∙ then_empty (pairs_of a) (pairs_of b) (ap all_empty after ∙ empty)

@@ -14,24 +14,28 @@ use units::Quantity;
 #[derive(Clone, Copy, PartialEq, Eq, PartialOrd, Ord)]
 struct Ramp(i32);
 
-const MOST_RAMP: Ramp = Ramp(offer::MOST_RAMP);
+impl Ramp {
+    const MOST: Ramp = Ramp(offer::MOST_RAMP);
+
+    // "outside 0 to its maximum", or "above 9,999", whatever its maximum
+    #[tactic(auto, unfolding(offer_rules::specs::Offer::ramp_beyond))]
+    fn is_beyond(self, maximum: Ramp) -> bool
+        ensures { result ≡ ramp_beyond maximum.0 self.0 }
+    {
+        !(Ramp(0)..=maximum).contains(&self) | (Ramp::MOST < self)
+    }
+}
 
 // Thousandths.
 #[derive(Clone, Copy, PartialEq, Eq, PartialOrd, Ord)]
 struct Proportion(i32);
 
-// "outside 0 to its maximum", or "above 9,999", whatever its maximum
-#[tactic(auto, unfolding(offer_rules::specs::Offer::ramp_beyond))]
-fn is_ramp_beyond(maximum: Ramp, ramp: Ramp) -> bool
-    ensures { result ≡ ramp_beyond maximum.0 ramp.0 }
-{
-    !(Ramp(0)..=maximum).contains(&ramp) | (MOST_RAMP < ramp)
-}
-
-fn is_none_or_above(maximum: Proportion, proportion: Proportion) -> bool
-    ensures { result ≡ (eq_z proportion.0 (pos 0) || lt_z maximum.0 proportion.0) }
-{
-    (proportion == Proportion(0)) | (maximum < proportion)
+impl Proportion {
+    fn is_none_or_above(self, maximum: Proportion) -> bool
+        ensures { result ≡ (eq_z self.0 (pos 0) || lt_z maximum.0 self.0) }
+    {
+        (self == Proportion(0)) | (maximum < self)
+    }
 }
 
 impl<'a> Filed<'a> {
@@ -43,15 +47,10 @@ impl<'a> Filed<'a> {
         if self.service != facility::ENERGY {
             return false;
         }
-        let up = is_ramp_beyond(
-            Ramp(capability[facility::MAX_RAMP_UP]),
-            Ramp(self.offer[offer::RAMP_UP]),
-        );
-        let down = is_ramp_beyond(
-            Ramp(capability[facility::MAX_RAMP_DOWN]),
-            Ramp(self.offer[offer::RAMP_DOWN]),
-        );
-        up | down
+        let up = Ramp(self.offer[offer::RAMP_UP]);
+        let down = Ramp(self.offer[offer::RAMP_DOWN]);
+        up.is_beyond(Ramp(capability[facility::MAX_RAMP_UP]))
+            | down.is_beyond(Ramp(capability[facility::MAX_RAMP_DOWN]))
     }
 
     fn is_reserve(&self) -> bool
@@ -65,10 +64,12 @@ impl<'a> Filed<'a> {
     pub fn is_proportion_refused(&self, capability: &[i32; 17]) -> bool
         ensures { result ≡ proportion_refused capability.now self.now.service self.now.offer.now }
     {
-        let maximum =
-            Proportion(capability[facility::MAX_PROPORTION_OF_SERVICE + usize::from(self.service)]);
+        let maximum = Proportion(
+            capability[facility::MAX_PROPORTION_OF_SERVICE + usize::from(self.service)],
+        );
+        let proportion = Proportion(self.offer[offer::PROPORTION]);
         (is_proportion_tested(capability[facility::KIND]) & self.is_reserve())
-            & is_none_or_above(maximum, Proportion(self.offer[offer::PROPORTION]))
+            & proportion.is_none_or_above(maximum)
     }
 
     // 16 "total above generation or combined maximum (energy), or above the service's own"
@@ -76,11 +77,11 @@ impl<'a> Filed<'a> {
     pub fn is_above_capacity(&self, capability: &[i32; 17], total: Sum) -> bool
         ensures { result ≡ above_capacity capability.now self.now.service total.0 }
     {
-        let is_below = |at: usize| Sum::from(Quantity(capability[at])) < total;
+        let is_above = |at: usize| Sum::from(Quantity(capability[at])) < total;
         if self.service == facility::ENERGY {
-            is_below(facility::MAX_GENERATION) | is_below(facility::MAX_COMBINED)
+            is_above(facility::MAX_GENERATION) | is_above(facility::MAX_COMBINED)
         } else {
-            is_below(facility::MAX_OF_SERVICE + usize::from(self.service))
+            is_above(facility::MAX_OF_SERVICE + usize::from(self.service))
         }
     }
 }

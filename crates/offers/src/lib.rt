@@ -17,8 +17,8 @@ mod walk;
 
 use filed::Filed;
 use layout::{Refusal, fields, refuse_if, time};
-pub use pairs::is_all_blank;
-pub use sum::sum_of;
+use limits::PriceLimits;
+pub use pairs::{is_all_blank, sum_of};
 use units::{is_beyond, nat};
 
 // ---- 10: slots and periods
@@ -43,7 +43,6 @@ pub fn is_period_refused(clock: u64, period: i32) -> bool
 // ---- 11 to 16
 
 // The first that applies. Where none does, "all non-blank pairs come first".
-#[tactic(auto, using(layout::proofs::Chains::passed_first, layout::proofs::Chains::refused_first, crate::proofs::InOrder::in_order, crate::proofs::InOrder::number_at_most))]
 pub fn check_offer(
     limits: &[i32; 6],
     capability: &[i32; 17],
@@ -55,13 +54,14 @@ pub fn check_offer(
     ensures { (drawn result ≡ offer_number limits.now capability.now service reason offer.now) × (drawn result ≤ 16) × (drawn result ≡ 0 → BlanksLast (pairs offer.now)) }
 {
     refuse_if(fields::LOAD_OUTAGE < reason, Refusal::OutOfRange)?;
-    let filed = Filed { service, offer };
-    let total = filed.judge_pairs(limits)?;
+    let filed = Filed {
+        service,
+        limits: PriceLimits::of_service(limits, service),
+        offer,
+    };
+    let total = filed.judge_pairs()?;
     refuse_if(filed.is_ramp_refused(capability), Refusal::Ramp)?;
-    refuse_if(
-        filed.is_proportion_refused(capability),
-        Refusal::Proportion,
-    )?;
+    refuse_if(filed.is_proportion_refused(capability), Refusal::Proportion)?;
     refuse_if(
         filed.is_above_capacity(capability, total),
         Refusal::AboveCapacity,

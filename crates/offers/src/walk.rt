@@ -1,8 +1,9 @@
 // What a walk through an offer's pairs finds up to the first blank.
 ghost use Rattle.std.specs.Prelude.{◌≡◌, ◌+◌, ◌*◌, ◌≤◌, nat_abs, length, IfOk};
-ghost use Rattle.offers.specs.PairTests.{pairs_of, still_rises, with_filled, none_yet, found_from};
+ghost use Rattle.offers.specs.PairTests.{pairs_of, still_rises, with_filled, found_from};
 
 use crate::limits::PriceLimits;
+use crate::pairs::pair_in;
 use crate::sum::Sum;
 use layout::Refusal;
 use units::{Pair, Price};
@@ -25,20 +26,16 @@ pub struct Findings {
 }
 
 impl Findings {
-    pub fn none() -> Findings
-        ensures { result ≡ none_yet }
-    {
-        Findings {
-            rises: true,
-            last: None,
-            total: Sum(0),
-            filled: 0,
-        }
-    }
+    pub const NONE_YET: Findings = Findings {
+        rises: true,
+        last: None,
+        total: Sum(0),
+        filled: 0,
+    };
 
     // One pair more.
     #[tactic(auto, unfolding(crate::specs::PairTests::with_filled))]
-    fn with(self, pair: Pair) -> Findings
+    fn with_filled(self, pair: Pair) -> Findings
         requires { (nat_abs self.total.0 ≤ 4611686018427387904) × (self.filled ≤ 10) }
         ensures { result ≡ with_filled self pair.price pair.quantity }
     {
@@ -52,12 +49,9 @@ impl Findings {
 }
 
 // Some pairs, after findings `start` of those before them. The walk ends at the first that is blank, and at the first that 11 refuses: no number
-// below 11 is left to be drawn from pairs.
-pub fn walk(
-    limits: PriceLimits,
-    start: Findings,
-    pairs: &[[i32; 2]],
-) -> Result<Findings, Refusal>
+// below 11 is left to be drawn from pairs. Inlined, both walks are over five pairs each, and nothing is handed over in memory.
+#[inline(always)]
+pub fn walk(limits: PriceLimits, start: Findings, pairs: &[[i32; 2]]) -> Result<Findings, Refusal>
     requires counted { start.filled + length pairs.now ≤ 10 }
     requires sized { nat_abs start.total.0 ≤ start.filled * 2147483648 }
     ensures found { result ≡ found_from limits.lowest limits.highest start (pairs_of pairs.now) }
@@ -65,14 +59,14 @@ pub fn walk(
 {
     let mut f = start;
     for words in pairs {
-        let pair = Pair::from(*words);
+        let pair = pair_in(words);
         if limits.is_out_of_range(pair) {
             return Err(Refusal::OutOfRange);
         }
         if pair.is_blank() {
             return Ok(f);
         }
-        f = f.with(pair);
+        f = f.with_filled(pair);
     }
     Ok(f)
 }

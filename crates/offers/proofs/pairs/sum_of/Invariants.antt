@@ -1,7 +1,7 @@
 use Rattle.std.proofs.Common.{◌≡◌, ◌*◌, ◌≤◌, nat_abs, ◌+ℤ◌, drop}
 use Rattle.offer_rules.specs.Offer.{sum_of}
 use Rattle.offers.specs.PairTests.{pairs_of}
-use Rattle.offers.proofs.sum.sum_of.Given as goal
+use Rattle.offers.proofs.pairs.sum_of.Given as goal
 
 -- The total so far, and what is left to be added to it.
 abbrev pub invariant-loop-words : goal.invariant-loop-words
