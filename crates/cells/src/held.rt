@@ -9,7 +9,7 @@ ghost use Rattle.cells.specs.Meaning.{held_by};
 use layout::{cell, offer};
 use offers::sum_of;
 
-// The words of an offer's pairs.
+// The words of an offer's pairs; a cell's below. Both are last_chunk, which is generic already.
 pub(crate) fn pairs_of(offer: &[i32; offer::WORDS]) -> &[i32; 20]
     ensures { result.now ≡ drop 3 offer.now }
 {

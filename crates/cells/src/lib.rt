@@ -1,5 +1,6 @@
 // The book's words (document 01, "The book's words" and "Offer in force"): places, stores, the offer in force,
 // and what a look-up and a total answer. Each read goes straight to its words; the book is never copied.
+// Narrowing stays `as`, proved to lose nothing: a `try_from` would be tested as it runs.
 #![tactic(auto)]
 
 mod answers;
