@@ -1,8 +1,9 @@
 -- The rule's numbers in the order in which the code asks for them, and the greatest of them.
 use Rattle.std.proofs.Common.{◌≡◌, refl, Bool, true, false, not, cond, ◌||◌, List, ℕ, ◌≤◌, ltb, eqb, ℤ, arith}
 use Rattle.offer_rules.specs.Numbers.{draw, ◌then◌}
-use Rattle.offer_rules.specs.Offer.{pairs, sum_of, lowest_price, highest_price, any_pair, pair_out_of_range, out_of_range, blank_refused, non_blank_prices, rises, ramp_refused, proportion_refused, above_capacity, offer_number}
-use Rattle.units.specs.Typed.{price_of}
+use Rattle.offer_rules.specs.Offer.{pairs, sum_of, any_pair, pair_out_of_range, out_of_range, blank_refused, non_blank_prices, rises, ramp_refused, proportion_refused, above_capacity, offer_number}
+use Rattle.offers.specs.declared.limits.PriceLimits.{PriceLimits}
+use Rattle.offers.specs.Typed.{limits_of}
 use Rattle.offers.specs.PairTests.{pairs_number}
 
 -- 11 of the reason before that of the pairs, and 11 to 13 of these together
@@ -14,20 +15,16 @@ parted false false true d m = refl
 parted false false false true m = refl
 parted false false false false m = refl
 
-abbrev pub of_pairs : List ℤ → ℕ → List ℤ → ℕ
-of_pairs limits s o =
-    pairs_number (price_of (lowest_price limits s)) (price_of (highest_price limits s)) (pairs o)
-
-pub in_order : (limits c : List ℤ) (s reason : ℕ) (o : List ℤ)
+pub in_order : (limits c : List ℤ) (s reason : ℕ) (o : List ℤ) (t : PriceLimits) → t ≡ limits_of limits s
     → offer_number limits c s reason o
     ≡ (draw (ltb 6 reason) 11
-    then of_pairs limits s o
+    then pairs_number t.lowest t.highest (pairs o)
     then draw (ramp_refused c s o) 14
     then draw (proportion_refused c s o) 15
     then draw (above_capacity c s (sum_of (pairs o))) 16)
 unfolding offer_number out_of_range pair_out_of_range pairs_number
-in_order limits c s reason o =
-    parted (ltb 6 reason) (any_pair (pair_out_of_range limits s) (pairs o)) (blank_refused (pairs o)) (not (rises (non_blank_prices (pairs o)))) _
+in_order limits c s reason o t e =
+    rw e (parted (ltb 6 reason) (any_pair (pair_out_of_range limits s) (pairs o)) (blank_refused (pairs o)) (not (rises (non_blank_prices (pairs o)))) _)
 
 draw_at_most : (t : Bool) (n : ℕ) → n ≤ 16 → draw t n ≤ 16
 unfolding draw

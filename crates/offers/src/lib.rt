@@ -17,6 +17,7 @@ mod walk;
 
 use filed::Filed;
 use layout::{Refusal, fields, refuse_if, time};
+use limits::PriceLimits;
 pub use pairs::{is_all_blank, sum_of};
 use units::{is_beyond, nat};
 
@@ -53,8 +54,12 @@ pub fn check_offer(
     ensures { (drawn result ≡ offer_number limits.now capability.now service reason offer.now) × (drawn result ≤ 16) × (drawn result ≡ 0 → BlanksLast (pairs offer.now)) }
 {
     refuse_if(fields::LOAD_OUTAGE < reason, Refusal::OutOfRange)?;
-    let filed = Filed { service, offer };
-    let total = filed.judge_pairs(limits)?;
+    let filed = Filed {
+        service,
+        limits: PriceLimits::of_service(limits, service),
+        offer,
+    };
+    let total = filed.judge_pairs()?;
     refuse_if(filed.is_ramp_refused(capability), Refusal::Ramp)?;
     refuse_if(filed.is_proportion_refused(capability), Refusal::Proportion)?;
     refuse_if(

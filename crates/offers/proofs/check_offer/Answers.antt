@@ -4,6 +4,7 @@ use Rattle.offer_rules.specs.Offer.{pairs, BlanksLast, offer_number}
 use Rattle.layout.specs.Refusal.{number, drawn}
 use Rattle.layout.specs.declared.refusal.Refusal.{Refusal}
 use Rattle.layout.proofs.Chains.{passed_first, refused_first}
+use Rattle.offers.specs.Typed.{limits_of}
 use Rattle.offers.proofs.InOrder.{in_order, number_at_most}
 use Rattle.offers.proofs.check_offer.Goals as goal
 
@@ -31,14 +32,14 @@ returns-in_err-refuse_if c =
     let a = c.args in
     let r = c.in_err-refuse_if.field-0.0 in
     refused a.limits.now a.capability.now a.service a.reason a.offer.now c.from_residual.result r (search rules)
-    (in_order a.limits.now a.capability.now a.service a.reason a.offer.now ∙ refused_first r _ _ c.in_err-refuse_if.ensures)
+    (in_order a.limits.now a.capability.now a.service a.reason a.offer.now (limits_of a.limits.now a.service) refl ∙ refused_first r _ _ c.in_err-refuse_if.ensures)
 
 pub returns-in_err-total : goal.returns-in_err-total
 returns-in_err-total c =
     let a = c.args in
     let r = c.in_err-total.field-0.0 in
     refused a.limits.now a.capability.now a.service a.reason a.offer.now c.from_residual-in_err-total.result r (search rules)
-    (in_order a.limits.now a.capability.now a.service a.reason a.offer.now
+    (in_order a.limits.now a.capability.now a.service a.reason a.offer.now c.of_service.result c.of_service.ensures
     ∙ passed_first _ _ (sym c.in_ok-refuse_if.ensures)
     ∙ refused_first r _ _ c.in_err-total.ensures.number)
 
@@ -47,7 +48,7 @@ returns-in_err-refuse_if-2 c =
     let a = c.args in
     let r = c.in_err-refuse_if-2.field-0.0 in
     refused a.limits.now a.capability.now a.service a.reason a.offer.now c.from_residual-in_err-refuse_if-2.result r (search rules)
-    (in_order a.limits.now a.capability.now a.service a.reason a.offer.now
+    (in_order a.limits.now a.capability.now a.service a.reason a.offer.now c.of_service.result c.of_service.ensures
     ∙ passed_first _ _ (sym c.in_ok-refuse_if.ensures)
     ∙ passed_first _ _ (sym c.in_ok-total.ensures.number)
     ∙ refused_first r _ _ (rw (← c.is_ramp_refused.ensures) c.in_err-refuse_if-2.ensures))
@@ -57,7 +58,7 @@ returns-in_err-refuse_if-3 c =
     let a = c.args in
     let r = c.in_err-refuse_if-3.field-0.0 in
     refused a.limits.now a.capability.now a.service a.reason a.offer.now c.from_residual-in_err-refuse_if-3.result r (search rules)
-    (in_order a.limits.now a.capability.now a.service a.reason a.offer.now
+    (in_order a.limits.now a.capability.now a.service a.reason a.offer.now c.of_service.result c.of_service.ensures
     ∙ passed_first _ _ (sym c.in_ok-refuse_if.ensures)
     ∙ passed_first _ _ (sym c.in_ok-total.ensures.number)
     ∙ passed_first _ _ (rw (← c.is_ramp_refused.ensures) (sym c.in_ok-refuse_if-2.ensures))
@@ -67,7 +68,7 @@ pub returns : goal.returns
 returns c =
     let a = c.args in
     gives a.limits.now a.capability.now a.service a.reason a.offer.now c.refuse_if-4.result
-    (sym (in_order a.limits.now a.capability.now a.service a.reason a.offer.now
+    (sym (in_order a.limits.now a.capability.now a.service a.reason a.offer.now c.of_service.result c.of_service.ensures
     ∙ passed_first _ _ (sym c.in_ok-refuse_if.ensures)
     ∙ passed_first _ _ (sym c.in_ok-total.ensures.number)
     ∙ passed_first _ _ (rw (← c.is_ramp_refused.ensures) (sym c.in_ok-refuse_if-2.ensures))

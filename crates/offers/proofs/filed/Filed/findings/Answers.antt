@@ -13,7 +13,7 @@ returns-in_err-five-clause-found c =
     let p = c.pairs-pairs in
     let e : c.from_residual.result ≡ Err c.in_err-five.field-0.0 = search rules in
     e
-    ∙ sym (five_end a.limits.lowest a.limits.highest p.result.now (pairs a.self.now.offer.now) p.ensures.each.0 p.ensures.each.1 c.in_err-five.field-0.0 (sym c.walk.ensures.found ∙ c.in_err-five.was))
+    ∙ sym (five_end a.self.now.limits.lowest a.self.now.limits.highest p.result.now (pairs a.self.now.offer.now) p.ensures.each.0 p.ensures.each.1 c.in_err-five.field-0.0 (sym c.walk.ensures.found ∙ c.in_err-five.was))
 
 pub returns-then-five-lt5-clause-found : goal.returns-then-five-lt5-clause-found
 returns-then-five-lt5-clause-found c =
@@ -24,10 +24,10 @@ returns-then-five-lt5-clause-found c =
     let h = sym c.walk.ensures.found ∙ c.in_ok-five.was in
     elim c.then-five-lt5.branch [
       | then-five-lt5-via-then-five-lt5 w ↦
-          sym (five_stop a.limits.lowest a.limits.highest p.result.now l p.ensures.each.0 p.ensures.each.1 five h w.if-five-lt5.true)
+          sym (five_stop a.self.now.limits.lowest a.self.now.limits.highest p.result.now l p.ensures.each.0 p.ensures.each.1 five h w.if-five-lt5.true)
       | then-five-lt5-via-else-five-lt5+then-do_five_suffice w ↦
-          sym (five_pass a.limits.lowest a.limits.highest p.result.now l p.ensures.each.0 p.ensures.each.1 five h w.if-five-lt5.false
-          ∙ five_suffice a.limits.lowest a.limits.highest p.result.now l p.ensures.each.0 p.ensures.each.1 a.self.now.service p.ensures.unused five (sym w.do_five_suffice.ensures ∙ w.if-do_five_suffice.true))
+          sym (five_pass a.self.now.limits.lowest a.self.now.limits.highest p.result.now l p.ensures.each.0 p.ensures.each.1 five h w.if-five-lt5.false
+          ∙ five_suffice a.self.now.limits.lowest a.self.now.limits.highest p.result.now l p.ensures.each.0 p.ensures.each.1 a.self.now.service p.ensures.unused five (sym w.do_five_suffice.ensures ∙ w.if-do_five_suffice.true))
     ]
 
 pub returns-clause-found : goal.returns-clause-found
@@ -37,8 +37,8 @@ returns-clause-found c =
     let five = c.in_ok-five.five in
     let h = sym c.walk.ensures.found ∙ c.in_ok-five.was in
     c.walk-2.ensures.found
-    ∙ ap (λ ws. found_from a.limits.lowest a.limits.highest five (pairs_of ws)) (take_all 5 (drop 5 p.result.now) (omega (arith, length-drop 5 p.result.now)))
-    ∙ sym (five_pass a.limits.lowest a.limits.highest p.result.now (pairs a.self.now.offer.now) p.ensures.each.0 p.ensures.each.1 five h c.if-five-lt5.false)
+    ∙ ap (λ ws. found_from a.self.now.limits.lowest a.self.now.limits.highest five (pairs_of ws)) (take_all 5 (drop 5 p.result.now) (omega (arith, length-drop 5 p.result.now)))
+    ∙ sym (five_pass a.self.now.limits.lowest a.self.now.limits.highest p.result.now (pairs a.self.now.offer.now) p.ensures.each.0 p.ensures.each.1 five h c.if-five-lt5.false)
 
 pub returns-clause-within : goal.returns-clause-within
 returns-clause-within c =
@@ -49,6 +49,6 @@ returns-clause-within c =
     let m : five.filled ≤ 5 = omega (arith, within.0, length-take-le 5 p.result.now) in
     let found =
     c.walk-2.ensures.found
-    ∙ ap (λ ws. found_from a.limits.lowest a.limits.highest five (pairs_of ws)) (take_all 5 (drop 5 p.result.now) (omega (arith, length-drop 5 p.result.now)))
+    ∙ ap (λ ws. found_from a.self.now.limits.lowest a.self.now.limits.highest five (pairs_of ws)) (take_all 5 (drop 5 p.result.now) (omega (arith, length-drop 5 p.result.now)))
     in
-    used_counted a.limits.lowest a.limits.highest p.result.now (pairs a.self.now.offer.now) p.ensures.each.0 p.ensures.each.1 a.self.now.service p.ensures.unused five m c.walk-2.result found (IfOk-weaker c.walk-2.result _ _ (λ f h. omega (arith, h.0, length-drop 5 p.result.now)) c.walk-2.ensures.within)
+    used_counted a.self.now.limits.lowest a.self.now.limits.highest p.result.now (pairs a.self.now.offer.now) p.ensures.each.0 p.ensures.each.1 a.self.now.service p.ensures.unused five m c.walk-2.result found (IfOk-weaker c.walk-2.result _ _ (λ f h. omega (arith, h.0, length-drop 5 p.result.now)) c.walk-2.ensures.within)

@@ -11,5 +11,5 @@ pub returns : goal.returns
 returns c =
     let a = c.args in
     let p = c.pairs.ensures in
-    any_from_yields_List (λ words. pair_is_out a.limits.lowest a.limits.highest (pair_of (typed words))) _ _ c.any.result c.any.ensures.ran (YieldsList-from_slice _ c.iter.ensures.rest) (λ x b q k. search (rules, tests))
-    ∙ tested_out c.pairs.result.now (pairs a.self.now.offer.now) p.each.0 a.from a.limits.lowest a.limits.highest p.each.1
+    any_from_yields_List (λ words. pair_is_out a.self.now.limits.lowest a.self.now.limits.highest (pair_of (typed words))) _ _ c.any.result c.any.ensures.ran (YieldsList-from_slice _ c.iter.ensures.rest) (λ x b q k. search (rules, tests))
+    ∙ tested_out c.pairs.result.now (pairs a.self.now.offer.now) p.each.0 a.from a.self.now.limits.lowest a.self.now.limits.highest p.each.1

@@ -8,39 +8,39 @@ use Rattle.offers.proofs.filed.Filed.judge_pairs.Goals as goal
 
 pub returns-in_err-f-clause-number : goal.returns-in_err-f-clause-number
 returns-in_err-f-clause-number c =
-    let t = c.of_service-limits in
+    let t = c.args.self.now.limits in
     let r = c.in_err-f.field-0.0 in
     let e : c.from_residual.result ≡ Err r = search rules in
     ap drawn e
-    ∙ rw t.ensures at (draws_11 t.result.lowest t.result.highest (pairs c.args.self.now.offer.now) r (sym c.findings.ensures.found ∙ c.in_err-f.was))
+    ∙ draws_11 t.lowest t.highest (pairs c.args.self.now.offer.now) r (sym c.findings.ensures.found ∙ c.in_err-f.was)
 
 pub returns-then-not-are_empty_from-clause-number : goal.returns-then-not-are_empty_from-clause-number
 returns-then-not-are_empty_from-clause-number c =
-    let t = c.of_service-limits in
+    let t = c.args.self.now.limits in
     let l = pairs c.args.self.now.offer.now in
-    rw t.ensures at (c.blanks_refusal.ensures
-    ∙ sym (draws_11_or_12 t.result.lowest t.result.highest l c.in_ok-f.f (sym c.findings.ensures.found ∙ c.in_ok-f.was) (sym c.are_empty_from.ensures ∙ c.if-not-are_empty_from.true)))
+    c.blanks_refusal.ensures
+    ∙ sym (draws_11_or_12 t.lowest t.highest l c.in_ok-f.f (sym c.findings.ensures.found ∙ c.in_ok-f.was) (sym c.are_empty_from.ensures ∙ c.if-not-are_empty_from.true))
 
 pub returns-then-not-f-clause-number : goal.returns-then-not-f-clause-number
 unfolding draw
 returns-then-not-f-clause-number c =
-    let t = c.of_service-limits in
+    let t = c.args.self.now.limits in
     let l = pairs c.args.self.now.offer.now in
-    let k = draws_13_or_none t.result.lowest t.result.highest l c.in_ok-f.f (sym c.findings.ensures.found ∙ c.in_ok-f.was) (sym c.are_empty_from.ensures ∙ c.if-not-are_empty_from.false) in
-    sym (rw t.ensures at (rw c.if-not-f.true at k))
+    let k = draws_13_or_none t.lowest t.highest l c.in_ok-f.f (sym c.findings.ensures.found ∙ c.in_ok-f.was) (sym c.are_empty_from.ensures ∙ c.if-not-are_empty_from.false) in
+    sym (rw c.if-not-f.true at k)
 
 pub returns-clause-number : goal.returns-clause-number
 unfolding draw
 returns-clause-number c =
-    let t = c.of_service-limits in
+    let t = c.args.self.now.limits in
     let l = pairs c.args.self.now.offer.now in
-    let k = draws_13_or_none t.result.lowest t.result.highest l c.in_ok-f.f (sym c.findings.ensures.found ∙ c.in_ok-f.was) (sym c.are_empty_from.ensures ∙ c.if-not-are_empty_from.false) in
-    sym (rw t.ensures at (rw c.if-not-f.false at k))
+    let k = draws_13_or_none t.lowest t.highest l c.in_ok-f.f (sym c.findings.ensures.found ∙ c.in_ok-f.was) (sym c.are_empty_from.ensures ∙ c.if-not-are_empty_from.false) in
+    sym (rw c.if-not-f.false at k)
 
 pub returns-clause-passed : goal.returns-clause-passed
 returns-clause-passed c =
-    let t = c.of_service-limits in
+    let t = c.args.self.now.limits in
     let l = pairs c.args.self.now.offer.now in
     let f = sym c.findings.ensures.found ∙ c.in_ok-f.was in
     let empty = sym c.are_empty_from.ensures ∙ c.if-not-are_empty_from.false in
-    (total_found t.result.lowest t.result.highest l c.in_ok-f.f f empty, come_first t.result.lowest t.result.highest l c.in_ok-f.f f empty)
+    (total_found t.lowest t.highest l c.in_ok-f.f f empty, come_first t.lowest t.highest l c.in_ok-f.f f empty)
