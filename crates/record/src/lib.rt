@@ -135,7 +135,7 @@ fn has_stray_beside_offer(bytes: &Record, service: u8) -> bool
 }
 
 // 4 "an unused byte not zero": the gaps between the bytes of "The nine calls and what they use", from byte 6 on.
-// Their ends are constants: a match for each byte takes thirty times as long.
+// Their ends are constants: a match for each byte takes thirty times as long. 3 and 4 apart: `3 | 4` is compiled to tests after the jump.
 fn has_stray(bytes: &Record) -> bool
     ensures { result ≡ has_stray bytes.now }
 {
