@@ -1,8 +1,10 @@
 -- The first tenth that differs, run by run: the first runs of two offers taken together, then what is left of both.
 use mathlib.Core.Path.{◌≡◌, refl, sym, ap, ◌∙◌}
-use mathlib.Core.Bool.{Bool, true, false, cond, ◌&&◌, ◌||◌}
+use Rattle.std.specs.Option.{is_some}
+use mathlib.Core.Bool.{Bool, true, false, cond, not, ◌&&◌, ◌||◌}
 use mathlib.Core.List.{List, [], ◌∷◌}
 use Prim.Native.Nat.{ℕ, zero, suc, ◌+◌, ◌-◌, ◌<◌, ◌≤◌, min}
+use Rattle.std.proofs.Math.Nat.{sub-zero}
 use native.Mathlib.Omega.{arith}
 use borrow.Author.Tests.{le-leb, lt-leb, leb-true, leb-false, eqb-true, eqb-false, eq-eqb, ne_eqb}
 use lib.Dec.{leb, eqb}
@@ -10,17 +12,23 @@ use lib.IntN.{ℤ, pos, negsuc}
 use Rattle.offer_rules.specs.Numbers.{eq_z}
 use Rattle.offer_rules.specs.Offer.{Pair}
 use Rattle.offer_rules.specs.Gate.{tenths_of, total_tenths, price_of_tenth, same_prices_to, same_prices}
-use Rattle.gate.specs.Differing.{or_else, first_differing_to, smaller_total, first_differing}
-use Rattle.gate.specs.Merging.{cut, later}
+use Rattle.gate.specs.Differing.{or_else, first_differing_to, smaller_total, first_differing, tenth_or_none}
+
+-- Pairs without the first n tenths of the first.
+unfoldable pub cut : ℕ → List Pair → List Pair
+cut n [] = []
+cut n (x ∷ l) = record { price = x.price; quantity = pos (tenths_of x - n) } ∷ l
+
+-- A tenth's number, counted from n tenths before; 0 stays.
+abbrev pub later : ℕ → ℕ → ℕ
+later n zero = 0
+later n (suc k) = suc (n + k)
 
 -- An offer that begins with n tenths at p.
 abbrev pub run : ℤ → ℕ → List Pair → List Pair
 run p n l = record { price = p; quantity = pos n } ∷ l
 
 -- ---- prices of a run's tenths, and of those after it
-
-less_none : (n : ℕ) → n - 0 ≡ n
-less_none n = omega arith
 
 in_run : (p : ℤ) (n : ℕ) (l : List Pair) (m : ℕ) → m < n → price_of_tenth (run p n l) (suc m) ≡ p
 unfolding price_of_tenth
@@ -31,7 +39,7 @@ unfolding price_of_tenth cut
 past_run p n [] m = rw (lt-leb (suc (m + n)) n (omega arith))
 past_run p n (x ∷ l) m =
     let e : suc (m + n) - n ≡ suc m = omega arith in
-    rw (lt-leb (suc (m + n)) n (omega arith), e, less_none (tenths_of x))
+    rw (lt-leb (suc (m + n)) n (omega arith), e, sub-zero (tenths_of x))
 
 still_in : (a b m : ℕ) → a ≤ b → leb (suc (m + a)) b ≡ leb (suc m) (b - a)
 still_in a b m h = go (leb (suc m) (b - a)) refl
@@ -47,12 +55,12 @@ shorter_run p b l a m h = let e : suc (m + a) - b ≡ suc m - (b - a) = omega ar
 total_cut : (l : List Pair) → total_tenths (cut 0 l) ≡ total_tenths l
 unfolding total_tenths cut
 total_cut [] = refl
-total_cut (x ∷ l) = rw (less_none (tenths_of x))
+total_cut (x ∷ l) = rw (sub-zero (tenths_of x))
 
 price_cut : (l : List Pair) (m : ℕ) → price_of_tenth (cut 0 l) m ≡ price_of_tenth l m
 unfolding price_of_tenth cut
 price_cut [] m = refl
-price_cut (x ∷ l) m = rw (less_none (tenths_of x))
+price_cut (x ∷ l) m = rw (sub-zero (tenths_of x))
 
 -- ---- the first that differs among a tenths and k more
 
@@ -179,3 +187,10 @@ none_to (suc n) x y =
 pub none_differs_is_same : (old new : List Pair) → eqb (first_differing old new) 0 ≡ same_prices old new
 unfolding first_differing smaller_total same_prices
 none_differs_is_same old new = none_to (min (total_tenths old) (total_tenths new)) old new
+
+pub found_where_prices_differ : (old new : List Pair) → is_some (tenth_or_none (first_differing old new)) ≡ not (same_prices old new)
+found_where_prices_differ old new = found (first_differing old new) ∙ ap not (none_differs_is_same old new)
+  where
+    found : (n : ℕ) → is_some (tenth_or_none n) ≡ not (eqb n 0)
+    found zero = refl
+    found (suc n) = ap not (sym (ne_eqb (suc n) 0 (λ e. omega arith)))

@@ -1,6 +1,6 @@
 -- Document 01, "Gate": the first tenth that differs in price,
 -- among those "from 1 to the smaller total" that must have "the same price in old and new".
-use Rattle.std.specs.Prelude.{cond, List, ℕ, zero, suc, min}
+use Rattle.std.specs.Prelude.{cond, List, ℕ, zero, suc, min, Option, Some, None}
 use Rattle.offer_rules.specs.Numbers.{eq_z}
 use Rattle.offer_rules.specs.Offer.{Pair}
 use Rattle.offer_rules.specs.Gate.{total_tenths, price_of_tenth}
@@ -21,3 +21,8 @@ smaller_total old new = min (total_tenths old) (total_tenths new)
 
 unfoldable pub first_differing : List Pair → List Pair → ℕ
 first_differing old new = first_differing_to (smaller_total old new) old new
+
+-- That tenth, or none.
+abbrev pub tenth_or_none : ℕ → Option ℕ
+tenth_or_none zero = None
+tenth_or_none (suc n) = Some (suc n)

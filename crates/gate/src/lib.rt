@@ -1,39 +1,38 @@
 // Gate closure, refusal 17: prices compared tenth by tenth, and the reasons.
-// Offers are lent as their pairs' words: price, quantity, price, quantity ..
 #![tactic(auto)]
 
-ghost use Rattle.std.specs.Prelude.{◌≡◌, true, ◌&&◌, ◌+◌, ◌-◌, ◌*◌, ◌≤◌, ◌<◌, ltb, length, drop};
-ghost use Rattle.offer_rules.specs.Numbers.{to_nat, eq_z};
+ghost use Rattle.std.specs.Prelude.{◌≡◌, true, not, ◌&&◌, ◌+◌, ◌-◌, ◌*◌, ◌≤◌, ◌<◌, ltb, length, drop};
+ghost use Rattle.offer_rules.specs.Numbers.{eq_z};
 ghost use Rattle.offer_rules.specs.Kinds.{admits};
 ghost use Rattle.offer_rules.specs.Offer.{pairs_in, all_blank, filled_part, BlanksAfter, BlanksLast};
-ghost use Rattle.offer_rules.specs.Gate.{total_tenths, same_prices, covers, is_open, admits_service, period_covered, total_moved, is_excepted};
-ghost use Rattle.gate.specs.Differing.{first_differing};
-ghost use Rattle.gate.specs.Merging.{left_of, alike, differ, merged};
-ghost use Rattle.gate.specs.Meaning.{window_of, grounds_of};
+ghost use Rattle.offer_rules.specs.Gate.{tenths_of, total_tenths, same_prices, covers, is_open, admits_service, period_covered, total_moved, is_excepted};
+ghost use Rattle.units.specs.Typed.{typed, pair_of};
+ghost use Rattle.gate.specs.Differing.{first_differing, tenth_or_none};
+ghost use Rattle.gate.specs.Meaning.{window_of, grounds_of, in_pairs, words_of, IsLent};
 
 use kinds::admits;
-use layout::{facility, offer, time};
-use units::{Price, Quantity, is_blank, nat, price_at, quantity_at};
-
-// A merge of two offers: the pair that it has come to in each, that pair's tenths that are passed, and all tenths passed.
-#[derive(Clone, Copy)]
-struct Merge {
-    pub old_pair: usize,
-    pub old_used: u64,
-    pub new_pair: usize,
-    pub new_used: u64,
-    pub passed: u64,
-}
+use layout::{facility, time};
+use units::{Pair, nat, pair_words};
 
 // The periods of an outage or a notice.
-#[derive(Clone, Copy)]
+#[derive(Clone, Copy, Debug, PartialEq, Eq)]
 pub struct Window {
     pub first: i32,
     pub last: i32,
 }
 
+impl Window {
+    #[tactic(auto, unfolding(offer_rules::specs::Gate::covers))]
+    fn covers(self, period: u64) -> bool
+        requires { period < 2147483648 }
+        ensures { result ≡ covers (window_of self) period }
+    {
+        (self.first..=self.last).contains(&(period as i32))
+    }
+}
+
 // What a reason is held against: the facility's kind and outage window, and the three notices.
-#[derive(Clone, Copy)]
+#[derive(Clone, Copy, Debug, PartialEq, Eq)]
 pub struct Grounds {
     pub kind: i32,
     pub outage: Window,
@@ -42,140 +41,169 @@ pub struct Grounds {
     pub status: Window,
 }
 
-// "a quantity below 0, which only a damaged book holds, counts as 0"
-fn tenths_in(quantity: Quantity) -> u64
-    ensures { (result ≡ to_nat quantity.0) × (result < 2147483648) }
-{
-    nat(quantity.0)
+// A filing inside gate closure: the service and the period of its offer, and the reason that it gives.
+#[derive(Clone, Copy, Debug, PartialEq, Eq)]
+pub struct Filing {
+    pub service: u8,
+    pub period: u64,
+    pub reason: u8,
+    pub ghost period_fits: { period < 2147483648 },
 }
 
-fn less(n: u64, used: u64) -> u64
-    ensures { result ≡ n - used }
-{
-    if used < n { n - used } else { 0 }
+// An offer, lent as its pairs' words: price, quantity, price, quantity ..
+#[derive(Clone, Copy, Debug)]
+pub enum Offer<'a> {
+    // All ten pairs, of which "all non-blank pairs come first".
+    Filed(&'a [i32; 20]),
+    // "A held offer, which may be older": as many pairs as there are, none where there is no offer, and blanks anywhere.
+    Held(&'a [i32]),
 }
 
-// The tenths of a pair that are left after those used.
-#[tactic(auto, unfolding(crate::specs::Merging::left_of))]
-fn left_of(words: &[i32], pair: usize, used: u64) -> u64
-    requires { (2 * pair + 1 < length words.now) × (used < 2147483648) }
-    ensures { (result ≡ left_of words.now pair used) × (used + result < 2147483648) }
-{
-    less(tenths_in(quantity_at(words, 2 * pair + 1)), used)
+// ---- how far an offer is walked
+
+// The pairs of an offer that are walked: its first ones, after which it has blanks alone.
+#[derive(Clone, Copy, Debug)]
+struct Walk<'a> {
+    pairs: &'a [[i32; 2]],
+    ghost at_most_ten: { length pairs.now ≤ 10 },
 }
 
-fn same_price(a: Price, b: Price) -> bool
-    ensures { result ≡ eq_z a.0 b.0 }
+// How many pairs stand before the first blank.
+fn filled_count(pairs: &[[i32; 2]]) -> usize
+    ensures { (result ≡ length (filled_part (in_pairs pairs.now))) × (result ≤ length pairs.now) }
 {
-    a.0 == b.0
+    pairs
+        .iter()
+        .position(|words| Pair::from(*words).is_blank())
+        .unwrap_or(pairs.len())
 }
 
-#[tactic(auto, unfolding(crate::specs::Merging::alike))]
-fn prices_alike(old: &[i32], i: usize, new: &[i32], j: usize) -> bool
-    requires { (2 * i + 1 < length old.now) × (2 * j + 1 < length new.now) }
-    ensures { result ≡ alike old.now i new.now j }
+// How many pairs there are up to the last that isn't blank.
+fn count_to_last(pairs: &[[i32; 2]]) -> usize
+    ensures { (result ≤ length pairs.now) × (all_blank (in_pairs (drop result pairs.now)) ≡ true) }
 {
-    same_price(price_at(old, 2 * i), price_at(new, 2 * j))
+    pairs
+        .iter()
+        .rposition(|words| !Pair::from(*words).is_blank())
+        .map_or(0, |last| last + 1)
 }
 
-// Both pairs have tenths left, at two prices.
-#[tactic(auto, unfolding(crate::specs::Merging::differ))]
-fn pairs_differ(a: u64, b: u64, same: bool) -> bool
-    ensures { result ≡ differ a b same }
+// Of a filed offer the pairs before its first blank, since "all non-blank pairs come first".
+fn filed_walk(words: &[i32; 20]) -> Walk<'_>
+    requires { BlanksLast (pairs_in words.now) }
+    ensures { BlanksAfter (in_pairs result.pairs.now) (pairs_in words.now) }
 {
-    ((0 < a) & (0 < b)) & !same
-}
-
-// A step passes the pair with fewer tenths left, a of old's or b of new's, or both where they are as many: an offer that
-// only adds to old is walked through in as many steps as it has pairs.
-#[tactic(auto, unfolding(crate::specs::Merging::merged))]
-fn merge_step(s: Merge, a: u64, b: u64) -> Merge
-    requires { (s.old_pair < 9223372036854775808) × (s.new_pair < 9223372036854775808) × (s.old_used + a < 2147483648) × (s.new_used + b < 2147483648) × (s.passed < 9223372036854775808) }
-    ensures { result ≡ merged s a b }
-{
-    if a == b {
-        return Merge {
-            old_pair: s.old_pair + 1,
-            old_used: 0,
-            new_pair: s.new_pair + 1,
-            new_used: 0,
-            passed: s.passed + a,
-        };
-    }
-    if a <= b {
-        return Merge {
-            old_pair: s.old_pair + 1,
-            old_used: 0,
-            new_pair: s.new_pair,
-            new_used: s.new_used + a,
-            passed: s.passed + a,
-        };
-    }
-    Merge {
-        old_pair: s.old_pair,
-        old_used: s.old_used + b,
-        new_pair: s.new_pair + 1,
-        new_used: 0,
-        passed: s.passed + b,
+    let pairs = pair_words(words);
+    let end = filled_count(pairs);
+    Walk {
+        pairs: &pairs[..end],
     }
 }
 
-// The lowest n from 1 to the smaller total whose tenth differs in price; 0 where none does.
-fn first_differing_tenth(old: &[i32], new: &[i32]) -> u64
-    requires { (length old.now ≤ 20) × (length new.now ≤ 20) }
-    ensures { result ≡ first_differing (pairs_in old.now) (pairs_in new.now) }
+// A held offer "is still walked to its last pair", whatever blanks stand before that; those after it hold no tenths.
+fn held_walk(words: &[i32]) -> Walk<'_>
+    requires { length words.now ≤ 20 }
+    ensures { BlanksAfter (in_pairs result.pairs.now) (pairs_in words.now) }
 {
-    let m = old.len() / 2;
-    let n = new.len() / 2;
-    let mut s = Merge {
-        old_pair: 0,
-        old_used: 0,
-        new_pair: 0,
-        new_used: 0,
-        passed: 0,
-    };
-    while s.old_pair < m && s.new_pair < n {
-        let a = left_of(old, s.old_pair, s.old_used);
-        let b = left_of(new, s.new_pair, s.new_used);
-        let same = prices_alike(old, s.old_pair, new, s.new_pair);
-        if pairs_differ(a, b, same) {
-            return s.passed + 1;
+    let pairs = pair_words(words);
+    let end = count_to_last(pairs);
+    Walk {
+        pairs: &pairs[..end],
+    }
+}
+
+impl<'a> Offer<'a> {
+    fn walk(self) -> Walk<'a>
+        requires { IsLent self }
+        ensures { BlanksAfter (in_pairs result.pairs.now) (pairs_in (words_of self.entry)) }
+    {
+        match self {
+            Offer::Filed(words) => filed_walk(words),
+            Offer::Held(words) => held_walk(words),
         }
-        s = merge_step(s, a, b);
     }
-    0
 }
 
-// "for every n from 1 to the smaller total, the n-th tenth .. has the same price in old and new"
-#[tactic(auto, using(crate::proofs::Runs::none_differs_is_same))]
-fn same_prices(old: &[i32], new: &[i32]) -> bool
-    requires { (length old.now ≤ 20) × (length new.now ≤ 20) }
-    ensures { result ≡ same_prices (pairs_in old.now) (pairs_in new.now) }
+// ---- tenth by tenth
+
+// "a quantity below 0, which only a damaged book holds, counts as 0"
+fn tenths_of(pair: Pair) -> u64
+    ensures { (result ≡ tenths_of (pair_of pair)) × (result < 2147483648) }
 {
-    first_differing_tenth(old, new) == 0
+    nat(pair.quantity.0)
 }
 
-#[tactic(auto, using(crate::proofs::Words::total_from, crate::proofs::Words::total_at_end))]
-fn total_tenths(pairs: &[i32]) -> u64
-    requires { length pairs.now ≤ 20 }
-    ensures { (result ≡ total_tenths (pairs_in pairs.now)) × (result ≤ 21474836480) }
+// A pair read word by word: from a copy of both, which is read as one word of 64 bits, the merge takes a tenth longer.
+fn read_pair(words: &[i32; 2]) -> Pair
+    ensures { result ≡ typed words.now }
 {
-    let m = pairs.len() / 2;
-    let mut total: u64 = 0;
-    for i in 0..m {
-        total += tenths_in(quantity_at(pairs, 2 * i + 1));
+    let [price, quantity] = words;
+    Pair::from([*price, *quantity])
+}
+
+// Two pairs differ where both have tenths left, a and b, at two prices: a blank pair's price is never compared.
+#[tactic(auto, using(crate::proofs::Words::equal_words))]
+fn differ(x: Pair, a: u64, y: Pair, b: u64) -> bool
+    ensures { result ≡ ((ltb 0 a && ltb 0 b) && not (eq_z x.price.0 y.price.0)) }
+{
+    0 < a && 0 < b && x.price != y.price
+}
+
+impl Walk<'_> {
+    #[tactic(auto, using(crate::proofs::Words::total_from, crate::proofs::Words::total_at_end))]
+    fn total_tenths(self) -> u64
+        ensures { (result ≡ total_tenths (in_pairs self.entry.pairs.now)) × (result ≤ 21474836480) }
+    {
+        let mut total = 0;
+        for words in self.pairs {
+            total += tenths_of(Pair::from(*words));
+        }
+        total
     }
-    total
+
+    // The lowest n from 1 to the smaller total whose tenth differs in price.
+    // A step passes the pair with fewer tenths left, a of old's or b of new's, or both where they are as many: an offer that only adds to old is walked through
+    // in as many steps as it has pairs.
+    #[tactic(auto, using(crate::proofs::Steps::old_ended, crate::proofs::Steps::new_ended))]
+    fn first_differing_tenth(self, new: Walk) -> Option<u64>
+        ensures { result ≡ tenth_or_none (first_differing (in_pairs self.entry.pairs.now) (in_pairs new.entry.pairs.now)) }
+    {
+        let (mut old, mut old_used) = (self.pairs, 0);
+        let (mut new, mut new_used) = (new.pairs, 0);
+        let mut passed = 0;
+        while let ([x, ..], [y, ..]) = (old, new) {
+            let x = read_pair(x);
+            let y = read_pair(y);
+            let a = tenths_of(x).saturating_sub(old_used);
+            let b = tenths_of(y).saturating_sub(new_used);
+            if differ(x, a, y, b) {
+                return Some(passed + 1);
+            }
+            if a == b {
+                (old, old_used) = (&old[1..], 0);
+                (new, new_used) = (&new[1..], 0);
+            } else if a < b {
+                (old, old_used) = (&old[1..], 0);
+                new_used += a;
+            } else {
+                old_used += b;
+                (new, new_used) = (&new[1..], 0);
+            }
+            passed += a.min(b);
+        }
+        None
+    }
+
+    // "for every n from 1 to the smaller total, the n-th tenth .. has the same price in old and new"
+    #[tactic(auto, using(crate::proofs::Runs::found_where_prices_differ))]
+    fn same_prices(self, new: Walk) -> bool
+        ensures { result ≡ same_prices (in_pairs self.entry.pairs.now) (in_pairs new.entry.pairs.now) }
+    {
+        self.first_differing_tenth(new).is_none()
+    }
 }
 
-#[tactic(auto, unfolding(offer_rules::specs::Gate::covers))]
-fn is_covered(window: Window, period: u64) -> bool
-    requires { period < 2147483648 }
-    ensures { result ≡ covers (window_of window) period }
-{
-    let p = period as i32;
-    (window.first <= p) & (p <= window.last)
-}
+// ---- the reasons
 
 // "3 service 0"
 #[tactic(auto, unfolding(offer_rules::specs::Gate::admits_service))]
@@ -190,40 +218,27 @@ fn admits_service(service: u8, reason: u8) -> bool
 
 // What a reason asks of the period.
 #[tactic(auto, unfolding(offer_rules::specs::Gate::period_covered))]
-fn is_period_covered(g: Grounds, period: u64, reason: u8) -> bool
-    requires { period < 2147483648 }
-    ensures { result ≡ period_covered (grounds_of g) period reason }
+fn is_period_covered(g: Grounds, filing: Filing) -> bool
+    ensures { result ≡ period_covered (grounds_of g) filing.period filing.reason }
 {
-    let outage = is_covered(g.outage, period);
-    let surplus = is_covered(g.surplus, period);
-    let shortfall = is_covered(g.shortfall, period);
-    let status = is_covered(g.status, period);
+    let Filing { period, reason, .. } = filing;
     match reason {
-        2 => outage,
-        3 => surplus,
-        4 => shortfall,
-        5 => status,
-        6 => outage,
+        2 | 6 => g.outage.covers(period),
+        3 => g.surplus.covers(period),
+        4 => g.shortfall.covers(period),
+        5 => g.status.covers(period),
         0 | 1 | 7..=255 => true,
     }
 }
 
-fn has_less(a: &[i32], b: &[i32]) -> bool
-    requires { (length a.now ≤ 20) × (length b.now ≤ 20) }
-    ensures { result ≡ ltb (total_tenths (pairs_in a.now)) (total_tenths (pairs_in b.now)) }
-{
-    total_tenths(a) < total_tenths(b)
-}
-
-// What it asks of the totals of old and new, for which every pair lent is read.
+// What it asks of the totals of old and new, for which every pair that is walked is read.
 #[tactic(auto, unfolding(offer_rules::specs::Gate::total_moved))]
-fn is_total_moved(reason: u8, old: &[i32], new: &[i32]) -> bool
-    requires { (length old.now ≤ 20) × (length new.now ≤ 20) }
-    ensures { result ≡ total_moved reason (total_tenths (pairs_in old.now)) (total_tenths (pairs_in new.now)) }
+fn is_total_moved(reason: u8, old: Walk, new: Walk) -> bool
+    ensures { result ≡ total_moved reason (total_tenths (in_pairs old.entry.pairs.now)) (total_tenths (in_pairs new.entry.pairs.now)) }
 {
     match reason {
-        3 => has_less(new, old),
-        4 | 5 => has_less(old, new),
+        3 => new.total_tenths() < old.total_tenths(),
+        4 | 5 => old.total_tenths() < new.total_tenths(),
         0..=2 | 6..=255 => true,
     }
 }
@@ -237,88 +252,24 @@ pub fn is_before_closure(clock: u64, period: u64) -> bool
 }
 
 // "Inside that it needs a reason": what the one given asks of the kind, the service and the period.
-fn is_admitted(g: Grounds, service: u8, period: u64, reason: u8) -> bool
-    requires { period < 2147483648 }
-    ensures { result ≡ ((admits g.kind reason && admits_service service reason) && period_covered (grounds_of g) period reason) }
+fn is_admitted(g: Grounds, filing: Filing) -> bool
+    ensures { result ≡ ((admits g.kind filing.reason && admits_service filing.service filing.reason) && period_covered (grounds_of g) filing.period filing.reason) }
 {
-    if !admits(g.kind, reason) {
-        return false;
-    }
-    if !admits_service(service, reason) {
-        return false;
-    }
-    is_period_covered(g, period, reason)
-}
-
-// ---- how far an offer is walked
-
-// How many pairs stand before the first blank.
-#[tactic(auto, using(offer_rules::proofs::Blanks::filled_from, offer_rules::proofs::Blanks::none_left_filled))]
-fn filled_count(pairs: &[i32]) -> usize
-    requires { length pairs.now ≡ 20 }
-    ensures { (result ≡ length (filled_part (pairs_in pairs.now))) × (result ≤ 10) }
-{
-    for i in 0..offer::PAIR_COUNT {
-        if is_blank(quantity_at(pairs, 2 * i + 1)) {
-            return i;
-        }
-    }
-    offer::PAIR_COUNT
-}
-
-// How many pairs there are up to the last that isn't blank; where there are fewer than ten, all.
-#[tactic(auto, using(offer_rules::proofs::Blanks::none_left_blank))]
-fn count_to_last(pairs: &[i32]) -> usize
-    requires { length pairs.now ≤ 20 }
-    ensures { (2 * result ≤ length pairs.now) × (all_blank (pairs_in (drop (2 * result) pairs.now)) ≡ true) }
-{
-    if pairs.len() < 2 * offer::PAIR_COUNT {
-        return pairs.len() / 2;
-    }
-    for i in 0..offer::PAIR_COUNT {
-        let n = offer::PAIR_COUNT - i;
-        if !is_blank(quantity_at(pairs, 2 * n - 1)) {
-            return n;
-        }
-    }
-    0
-}
-
-// The pairs to walk: of a filed offer those before its first blank, since "all non-blank pairs come first"; "A held offer, which may be older, is still walked to its
-// last pair", whatever blanks stand before that; those after it hold no tenths.
-fn pairs_to_walk(pairs: &[i32], filed: bool) -> &[i32]
-    requires { (length pairs.now ≤ 20) × (filed ≡ true → (length pairs.now ≡ 20) × BlanksLast (pairs_in pairs.now)) }
-    ensures { BlanksAfter (pairs_in result.now) (pairs_in pairs.now) × (length result.now ≤ 20) }
-{
-    if filed {
-        let end = 2 * filled_count(pairs);
-        return &pairs[0..end];
-    }
-    let end = 2 * count_to_last(pairs);
-    &pairs[0..end]
+    admits(g.kind, filing.reason)
+        && admits_service(filing.service, filing.reason)
+        && is_period_covered(g, filing)
 }
 
 // Whether a filing inside gate closure is excepted, of a variation and of a standing offer over a held one; old holds no pairs where no offer is in force. New is the
 // filed one, or where a variation is taken back a held one, or none.
-pub fn is_excepted(
-    g: Grounds,
-    service: u8,
-    period: u64,
-    reason: u8,
-    old: &[i32],
-    new: &[i32],
-    filed: bool,
-) -> bool
-    requires { (period < 2147483648) × (length old.now ≤ 20) × (length new.now ≤ 20) × (filed ≡ true → (length new.now ≡ 20) × BlanksLast (pairs_in new.now)) }
-    ensures { result ≡ is_excepted (grounds_of g) service period reason (pairs_in old.now) (pairs_in new.now) }
+pub fn is_excepted(g: Grounds, filing: Filing, old: &[i32], new: Offer) -> bool
+    requires { (length old.now ≤ 20) × IsLent new }
+    ensures { result ≡ is_excepted (grounds_of g) filing.service filing.period filing.reason (pairs_in old.now) (pairs_in (words_of new.entry)) }
 {
-    if !is_admitted(g, service, period, reason) {
+    if !is_admitted(g, filing) {
         return false;
     }
-    let before = pairs_to_walk(old, false);
-    let after = pairs_to_walk(new, filed);
-    if is_total_moved(reason, before, after) {
-        return same_prices(before, after);
-    }
-    false
+    let before = Offer::Held(old).walk();
+    let after = new.walk();
+    is_total_moved(filing.reason, before, after) && before.same_prices(after)
 }

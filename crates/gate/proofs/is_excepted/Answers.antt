@@ -3,7 +3,7 @@ use Rattle.offer_rules.specs.Kinds.{admits}
 use Rattle.offer_rules.specs.Offer.{Pair, BlanksAfter, pairs_in}
 use Rattle.offer_rules.specs.Gate.{Grounds, total_tenths, same_prices, admits_service, period_covered, total_moved, is_excepted}
 use Rattle.offer_rules.proofs.Blanks.{excepted_by_first}
-use Rattle.gate.specs.Meaning.{grounds_of}
+use Rattle.gate.specs.Meaning.{grounds_of, words_of}
 use Rattle.gate.proofs.Admitted.{by_totals_and_prices}
 use Rattle.gate.proofs.is_excepted.Goals as goal
 
@@ -16,17 +16,18 @@ decided g s p reason {before} {after} b a e =
 
 pub returns-then-not-is_admitted : goal.returns-then-not-is_admitted
 returns-then-not-is_admitted c =
-    let s = c.args in
-    sym (by_totals_and_prices (grounds_of s.g) s.service s.period s.reason (pairs_in s.old.now) (pairs_in s.new.now) false (sym c.is_admitted.ensures ∙ c.if-not-is_admitted.true))
+    let a = c.args in
+    let f = a.filing in
+    sym (by_totals_and_prices (grounds_of a.g) f.service f.period f.reason (pairs_in a.old.now) (pairs_in (words_of a.new)) false (sym c.is_admitted.ensures ∙ c.if-not-is_admitted.true))
 
 pub returns-then-is_total_moved : goal.returns-then-is_total_moved
 returns-then-is_total_moved c =
-    let s = c.args in
-    let e = decided (grounds_of s.g) s.service s.period s.reason c.pairs_to_walk-before.ensures.0 c.pairs_to_walk-after.ensures.0 (sym c.is_admitted.ensures ∙ c.if-not-is_admitted.false) in
+    let f = c.args.filing in
+    let e = decided (grounds_of c.args.g) f.service f.period f.reason c.walk-before.ensures c.walk-after.ensures (sym c.is_admitted.ensures ∙ c.if-not-is_admitted.false) in
     sym (e ∙ rw (← c.is_total_moved.ensures, c.if-is_total_moved.true, ← c.same_prices.ensures))
 
-pub returns : goal.returns
-returns c =
-    let s = c.args in
-    let e = decided (grounds_of s.g) s.service s.period s.reason c.pairs_to_walk-before.ensures.0 c.pairs_to_walk-after.ensures.0 (sym c.is_admitted.ensures ∙ c.if-not-is_admitted.false) in
+pub returns-else-is_total_moved : goal.returns-else-is_total_moved
+returns-else-is_total_moved c =
+    let f = c.args.filing in
+    let e = decided (grounds_of c.args.g) f.service f.period f.reason c.walk-before.ensures c.walk-after.ensures (sym c.is_admitted.ensures ∙ c.if-not-is_admitted.false) in
     sym (e ∙ rw (← c.is_total_moved.ensures, c.if-is_total_moved.false))
