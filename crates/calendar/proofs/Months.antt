@@ -5,13 +5,15 @@ use mathlib.Core.Bool.{Bool, true, false, cond, ◌&&◌, ◌||◌}
 use Prim.Native.Nat.{ℕ, suc, ◌+◌, ◌*◌, ◌-◌, ◌/◌, ◌%◌, ◌<◌, ◌≤◌}
 use native.Mathlib.Omega.{arith}
 use lib.Dec.{eqb, leb, ltb}
-use borrow.Author.Tests.{eqb-true, ne_eqb, leb-true, ltb-true}
+use lib.IntN.{ℤ}
+use borrow.Author.Tests.{eqb-true, ne_eqb, leb-true, le-leb, ltb-true}
+use Rattle.offer_rules.specs.Numbers.{to_nat, between}
 use Rattle.offer_rules.proofs.Drawn.{and_left, and_right}
 use Rattle.calendar_rules.specs.Calendar.{year_days, month_days, days_before, month_at}
 use Rattle.calendar.specs.Evened.{evenly, evened}
 use Rattle.calendar_rules.proofs.Everywhere.{passes_below, everywhere, agree}
 use Rattle.calendar_rules.proofs.Begun.{later_begins_later, none_other}
-use Rattle.calendar_rules.proofs.Lengths.{months_make_the_year, months_rise, in_each_month}
+use Rattle.calendar_rules.proofs.Lengths.{months_make_the_year, months_rise, in_each_month, at_least_28}
 
 pub year_at_most : (leap : Bool) → year_days leap ≤ 366
 year_at_most true = omega arith
@@ -19,10 +21,10 @@ year_at_most false = omega arith
 
 -- ---- a month's days
 
-pub february_days : (leap : Bool) → 28 + cond leap 1 0 ≡ month_days leap 2
+pub february_days : (leap : Bool) (m k : ℕ) → m ≡ 2 → k ≡ cond leap 1 0 → 28 + k ≡ month_days leap m
 unfolding month_days
-february_days true = refl
-february_days false = refl
+february_days true m k two one = rw (two, one)
+february_days false m k two none = rw (two, none)
 
 turns_agree : (leap : Bool) → passes_below (λ i. eqb (i + 1) 2 || eqb (30 + (i + 1 + (i + 1) / 8) % 2) (month_days leap (i + 1))) 12 ≡ true
 unfolding passes_below month_days
@@ -33,6 +35,9 @@ pub days_in_turns : (leap : Bool) (m : ℕ) → 1 ≤ m → m ≤ 12 → m ≢ 2
 days_in_turns leap m l h n2 =
     eqb-true (30 + (m + m / 8) % 2) (month_days leap m)
     (rw (ne_eqb m 2 n2) at (in_each_month (λ k. eqb k 2 || eqb (30 + (k + k / 8) % 2) (month_days leap k)) (turns_agree leap) m l h))
+
+pub to_28 : (leap : Bool) (m : ℕ) (z : ℤ) → 1 ≤ m → m ≤ 12 → to_nat z ≤ 28 → between 1 (month_days leap m) (to_nat z) ≡ between 1 28 (to_nat z)
+to_28 leap m z l h k = let n = at_least_28 leap m l h in rw (le-leb (to_nat z) 28 k, le-leb (to_nat z) (month_days leap m) (omega arith))
 
 -- ---- the days before a month
 
@@ -52,10 +57,13 @@ before_early leap m l h =
     let e : m - 1 + 1 ≡ m = omega arith in
     rw e at (agree (λ i. evenly (i + 1)) (λ i. days_before leap (i + 1)) 2 (early_agree leap) (m - 1) (omega arith))
 
-pub before_later : (leap : Bool) (m : ℕ) → 3 ≤ m → m ≤ 12 → evenly m + cond leap 1 0 - 2 ≡ days_before leap m
-before_later leap m l h =
+later : (leap : Bool) (m : ℕ) → 3 ≤ m → m ≤ 12 → evenly m + cond leap 1 0 - 2 ≡ days_before leap m
+later leap m l h =
     let e : m - 3 + 3 ≡ m = omega arith in
     rw e at (agree (λ i. evenly (i + 3) + cond leap 1 0 - 2) (λ i. days_before leap (i + 3)) 10 (later_agree leap) (m - 3) (omega arith))
+
+pub before_later : (leap : Bool) (m d k : ℕ) → 3 ≤ m → m ≤ 12 → d ≡ evenly m → k ≡ cond leap 1 0 → d + k - 2 ≡ days_before leap m
+before_later leap m d k l h e f = rw (e, f) (later leap m l h)
 
 pub before_at_most : (leap : Bool) (m : ℕ) → m ≤ 12 → days_before leap m ≤ 366
 before_at_most leap m h =
