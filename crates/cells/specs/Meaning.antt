@@ -1,44 +1,41 @@
--- What the code's answers mean in document 01's rules: an offer in force by its cell's place, an answer's three fields,
+-- What the code's enums and structs mean in document 01's rules: what a cell holds, the offer in force, an answer's three fields,
 -- and the sizes that the book's words show.
-use Rattle.std.specs.Prelude.{◌≡◌, Bool, true, false, List, ℕ, ◌+◌, ◌≤◌, ℤ, length}
+use Rattle.std.specs.Prelude.{◌≡◌, List, ℕ, ◌≤◌, ℤ, length, Option, None, Some}
+use Rattle.std.proofs.Math.Option as math
 use Rattle.offer_rules.specs.Offer.{pairs, Held, sum_of}
-use Rattle.book_rules.specs.Words.{part, book_size, cell_width, cell_held}
+use Rattle.book_rules.specs.Words.{book_size, cell_held, standing_half, variation_half}
 use Rattle.book_rules.specs.Force as force
-use Rattle.book_rules.specs.Refusals.{equal_words}
 use Rattle.book_rules.specs.Book.{facilities_in, services_in}
-use Rattle.cells.specs.declared.InForce as place
-use Rattle.cells.specs.declared.InForce.TheVariants.{Nothing, Standing, Variation}
-use Rattle.cells.specs.declared.Answer as reply
+use Rattle.cells.specs.declared.places.Half.{Half}
+use Rattle.cells.specs.declared.places.Half.TheVariants as half
+use Rattle.cells.specs.declared.held.Cell.{Cell}
+use Rattle.cells.specs.declared.in_force.InForce.{InForce}
+use Rattle.cells.specs.declared.in_force.InForce.TheVariants.{Standing, Variation}
+use Rattle.cells.specs.declared.answers.Answer.{Answer}
 
--- What the cell at a place holds, and the offer of it.
-unfoldable pub held_at : List ℤ → ℕ → Held
-held_at w at = cell_held (part at cell_width w)
+-- "h 0 standing, 1 variation"
+abbrev pub half_number : Half → ℕ
+half_number half.Standing = standing_half
+half_number half.Variation = variation_half
 
-abbrev pub offer_at : List ℤ → ℕ → List ℤ
-offer_at w at = (held_at w at).offer
+-- What a cell's words hold.
+abbrev pub held_by : Cell → Held
+held_by c = cell_held c.words.now
 
--- What each case says of the words w.
-unfoldable pub meaning : List ℤ → place.InForce → force.InForce
-meaning w Nothing = force.no_offer
-meaning w (Standing at) = force.standing_offer (held_at w at)
-meaning w (Variation at) = force.offer_variation (held_at w at)
+-- What a book's view shows of a cell, where it is stamped.
+abbrev pub held_in : Option Cell → math.Option Held
+held_in None = math.none
+held_in (Some c) = math.some (held_by c)
 
--- Where the cell ends that a case names.
-unfoldable pub end_of : place.InForce → ℕ
-end_of Nothing = 0
-end_of (Standing at) = at + cell_width
-end_of (Variation at) = at + cell_width
+-- What each case says.
+abbrev pub meaning : Option InForce → force.InForce
+meaning None = force.no_offer
+meaning (Some (Standing c)) = force.standing_offer (held_by c)
+meaning (Some (Variation c)) = force.offer_variation (held_by c)
 
-unfoldable pub is_nothing : place.InForce → Bool
-is_nothing Nothing = true
-is_nothing (Standing at) = false
-is_nothing (Variation at) = false
-
--- 18 "equal to the held one", of an offer in force.
-unfoldable pub is_same_offer : force.InForce → List ℤ → Bool
-is_same_offer force.no_offer o = false
-is_same_offer (force.standing_offer h) o = equal_words h.offer o
-is_same_offer (force.offer_variation h) o = equal_words h.offer o
+abbrev pub cell_of : InForce → Cell
+cell_of (Standing c) = c
+cell_of (Variation c) = c
 
 -- F and S as the words hold them, within their limits, and room for all the words they need.
 pub record Sized (w : List ℤ) (facilities services : ℕ) : Type 0 where
@@ -49,13 +46,10 @@ pub record Sized (w : List ℤ) (facilities services : ℕ) : Type 0 where
   pub room : book_size facilities services ≤ length w
 
 -- The code's answer as the rule's: number, 24 words, sum.
-abbrev pub answer_of : reply.Answer → force.Answer
+abbrev pub answer_of : Answer → force.Answer
 answer_of r = record { number = r.number; words = r.words; sum = r.sum }
 
--- "sum: its ten quantities added"
-unfoldable pub total_quantity : List ℤ → ℕ → ℤ
-total_quantity w at = sum_of (pairs (offer_at w at))
-
--- Word 0, fresh or not, then the offer's words.
-unfoldable pub found_at : List ℤ → ℕ → ℕ → ℤ → ℤ → force.Answer
-found_at w at now fresh settled = record { number = 0; words = force.shown_at now fresh settled (held_at w at); sum = total_quantity w at }
+-- Word 0, fresh or not, then the offer's words; "sum: its ten quantities added".
+abbrev pub found_in : Cell → ℕ → ℤ → ℤ → force.Answer
+found_in c now fresh settled =
+    record { number = 0; words = force.shown_at now fresh settled (held_by c); sum = sum_of (pairs (held_by c).offer) }

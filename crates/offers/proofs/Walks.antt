@@ -1,50 +1,29 @@
 -- What a walk finds of the pairs before the first blank, and what is tested of those from it on, give refusals 11 to 13.
-use mathlib.Core.Path.{◌≡◌, refl, sym, ap, ap₂, ◌∙◌}
-use mathlib.Core.Bool.{Bool, true, false, not, cond, ◌&&◌, ◌||◌, and-true, true≢false, false≢true}
-use mathlib.Core.List.{List, [], ◌∷◌}
-use Prim.Native.Nat.{ℕ, zero, suc, ◌+◌, ◌*◌, ◌<◌, ◌≤◌}
-use native.Mathlib.Omega.{arith}
+use Rattle.std.proofs.Common.{◌≡◌, refl, sym, ap, ap₂, ◌∙◌, Bool, true, false, not, cond, ◌&&◌, ◌||◌, List, [], ◌∷◌, ◌++◌, ℕ, zero, suc, ◌+◌, ◌-◌, ◌*◌, ◌<◌, ◌≤◌, ltb, eqb, length, get_or, take, drop, length-drop, length-take-le, drop-drop, take_all, ℤ, pos, nat_abs, ◌+ℤ◌, Option, Some, None, Result, Ok, Err, IfOk, arith}
+use Rattle.std.proofs.Math.ListN.{drop_of_length-le}
+use Rattle.std.proofs.lemmas.List.{map-append, take-append-drop, length-map, drop-map}
+use mathlib.Core.Bool.{and-true, true≢false, false≢true}
 use borrow.Author.Tests.{ltb-true, ltb-false, eqb-false, not-true, not-false}
-use lib.Dec.{ltb, eqb}
-use lib.ListN.{length, get_or, drop}
+use Rattle.std.specs.List.{list_all, list_any}
 use lib.Signed.{lt_z}
-use lib.IntN.{ℤ, pos, negsuc, nat_abs, ◌+ℤ◌, +ℤ_assoc, +ℤ_idl, +ℤ_idr}
+use lib.IntN.{negsuc, +ℤ_assoc, +ℤ_idl, +ℤ_idr}
 use Rattle.offer_rules.specs.Numbers.{eq_z, beyond, any_beyond, draw, ◌then◌}
-use Rattle.offer_rules.specs.Offer.{Pair, pairs_in, is_blank, all_blank, filled_part, BlanksLast, sum_of, any_pair, is_priced_blank, blank_before_filled, blank_refused, non_blank_prices, rises}
+use Rattle.offer_rules.specs.Offer.{Pair, pairs_in, pairs, is_blank, all_blank, filled_part, BlanksLast, sum_of, any_pair, is_priced_blank, blank_before_filled, blank_refused, non_blank_prices, rises}
 use Rattle.offer_rules.proofs.Drawn.{and_left, and_right, or_left, or_right}
 use Rattle.offer_rules.proofs.Ranges.{same_word}
 use Rattle.offer_rules.proofs.Pairs.{pair_at, pairs_from, no_pairs_from}
 use Rattle.offer_rules.proofs.Blanks.{none_before, blanks_have_none, sum_of_first, prices_of_first}
-use Rattle.units.specs.Typed.{price_of, quantity_of}
+use Rattle.layout.specs.Refusal.{number, drawn}
+use Rattle.layout.specs.declared.refusal.Refusal.{Refusal}
+use Rattle.layout.specs.declared.refusal.Refusal.TheVariants.{OutOfRange}
+use Rattle.units.specs.Typed.{price_of, quantity_of, typed, pair_of}
 use Rattle.units.specs.declared.Price.{Price}
+use Rattle.units.specs.declared.Pair as typed
 use Rattle.units.specs.declared.Quantity.{Quantity}
 use Rattle.units.proofs.Adding.{abs_add}
-use Rattle.offers.specs.declared.pairs.Findings.{Findings}
-use Rattle.offers.specs.PairTests.{blank, is_out_of_range, pair_is_out, is_empty, all_empty, still_rises, with_filled, none_yet, refused, found_from, pairs_number, used_pairs, FiveUsed}
-
--- ---- the walk, turn by turn
-
-module _ (lowest highest : Price) (f : Findings) (ws : List ℤ) (i : ℕ) (p : Price) (q : Quantity) (h : 2 * i + 1 < length ws)
-    (ep : p ≡ price_of (pair_at ws i).price) (eq : q ≡ quantity_of (pair_at ws i).quantity) where
-  abbrev on : Findings
-  on = found_from lowest highest (with_filled f p q) (pairs_in (drop (2 * (i + 1)) ws))
-
-  turn : found_from lowest highest f (pairs_in (drop (2 * i) ws)) ≡ cond (is_out_of_range lowest highest p q) refused (cond (blank q) f on)
-  unfolding found_from
-  turn = rw (ep, eq) (ap (found_from lowest highest f) (pairs_from ws i h))
-
-  pub found_ends : is_out_of_range lowest highest p q ≡ true → found_from lowest highest f (pairs_in (drop (2 * i) ws)) ≡ refused
-  found_ends o = turn ∙ ap (λ (t : Bool). cond t refused (cond (blank q) f on)) o
-
-  pub found_stops : is_out_of_range lowest highest p q ≡ false → blank q ≡ true → found_from lowest highest f (pairs_in (drop (2 * i) ws)) ≡ f
-  found_stops o b = turn ∙ ap₂ (λ (t s : Bool). cond t refused (cond s f on)) o b
-
-  pub found_goes_on : is_out_of_range lowest highest p q ≡ false → blank q ≡ false → found_from lowest highest f (pairs_in (drop (2 * i) ws)) ≡ on
-  found_goes_on o b = turn ∙ ap₂ (λ (t s : Bool). cond t refused (cond s f on)) o b
-
-pub found_whole : (lowest highest : Price) (f : Findings) (ws : List ℤ) (n : ℕ) → length ws ≤ n → found_from lowest highest f (pairs_in (drop n ws)) ≡ f
-unfolding found_from
-found_whole lowest highest f ws n h = ap (found_from lowest highest f) (no_pairs_from ws n (omega arith))
+use Rattle.offers.specs.declared.walk.Findings.{Findings}
+use Rattle.offers.proofs.Pairing.{pair_next}
+use Rattle.offers.specs.PairTests.{pairs_of, blank, pair_is_out, no_pair, is_empty, all_empty, is_above, still_rises, with_filled, none_yet, found_from, pairs_number, used_pairs, FiveUsed, UsesFive}
 
 pub total_grows : (f : Findings) (p : Price) (q : Quantity) → nat_abs (with_filled f p q).total.0 ≤ nat_abs f.total.0 + nat_abs q.0
 unfolding with_filled
@@ -70,32 +49,33 @@ walked_total f [] = sym (+ℤ_idr f.total.0)
 walked_total f (x ∷ l) =
     walked_total (one_more f x) l ∙ +ℤ_assoc f.total.0 x.quantity (sum_of l)
 
--- strictly rising after a price, if there is any
-abbrev rises_after : Bool → ℤ → List ℤ → Bool
-rises_after any last ps = cond any (rises (last ∷ ps)) (rises ps)
+-- strictly rising after a price, if there is one
+abbrev rises_after : Option Price → List ℤ → Bool
+rises_after None ps = rises ps
+rises_after (Some last) ps = rises (last.0 ∷ ps)
 
-rises_none : (any : Bool) (last : ℤ) → true ≡ rises_after any last []
+rises_none : (last : Option Price) → true ≡ rises_after last []
 unfolding rises
-rises_none true last = refl
-rises_none false last = refl
+rises_none None = refl
+rises_none (Some last) = refl
 
-rises_past : (r any : Bool) (last p : Price) (ps : List ℤ) → (still_rises r any last p && rises (p.0 ∷ ps)) ≡ (r && rises_after any last.0 (p.0 ∷ ps))
+rises_past : (r : Bool) (last : Option Price) (p : Price) (ps : List ℤ) → (still_rises r last p && rises (p.0 ∷ ps)) ≡ (r && rises_after last (p.0 ∷ ps))
 unfolding still_rises rises
-rises_past false any last p ps = refl
-rises_past true true last p ps = refl
-rises_past true false last p ps = refl
+rises_past false last p ps = refl
+rises_past true None p ps = refl
+rises_past true (Some last) p ps = refl
 
-walked_rises : (f : Findings) (l : List Pair) → (walked f (filled_part l)).rises ≡ (f.rises && rises_after f.any f.last.0 (non_blank_prices (filled_part l)))
+walked_rises : (f : Findings) (l : List Pair) → (walked f (filled_part l)).rises ≡ (f.rises && rises_after f.last (non_blank_prices (filled_part l)))
 unfolding filled_part non_blank_prices with_filled
-walked_rises f [] = sym (and-true f.rises) ∙ ap (λ (t : Bool). f.rises && t) (rises_none f.any f.last.0)
+walked_rises f [] = sym (and-true f.rises) ∙ ap (λ (t : Bool). f.rises && t) (rises_none f.last)
 walked_rises f (x ∷ l) =
     let p = price_of x.price in
-    go (is_blank x) refl (walked_rises (one_more f x) l ∙ rises_past f.rises f.any f.last p (non_blank_prices (filled_part l)))
+    go (is_blank x) refl (walked_rises (one_more f x) l ∙ rises_past f.rises f.last p (non_blank_prices (filled_part l)))
   where
     go : (t : Bool) → is_blank x ≡ t
-        → (walked (one_more f x) (filled_part l)).rises ≡ (f.rises && rises_after f.any f.last.0 (x.price ∷ non_blank_prices (filled_part l)))
-        → (walked f (cond t [] (x ∷ filled_part l))).rises ≡ (f.rises && rises_after f.any f.last.0 (non_blank_prices (cond t [] (x ∷ filled_part l))))
-    go true e k = sym (and-true f.rises) ∙ ap (λ (t : Bool). f.rises && t) (rises_none f.any f.last.0)
+        → (walked (one_more f x) (filled_part l)).rises ≡ (f.rises && rises_after f.last (x.price ∷ non_blank_prices (filled_part l)))
+        → (walked f (cond t [] (x ∷ filled_part l))).rises ≡ (f.rises && rises_after f.last (non_blank_prices (cond t [] (x ∷ filled_part l))))
+    go true e k = sym (and-true f.rises) ∙ ap (λ (t : Bool). f.rises && t) (rises_none f.last)
     go false e k = rw e k
 
 -- ---- from the first blank on
@@ -104,21 +84,14 @@ unfoldable pub from_blank : List Pair → List Pair
 from_blank [] = []
 from_blank (x ∷ l) = cond (is_blank x) (x ∷ l) (from_blank l)
 
--- among the words
-pub rest_lent : (ws : List ℤ) → pairs_in (drop (2 * length (filled_part (pairs_in ws))) ws) ≡ from_blank (pairs_in ws)
-unfolding pairs_in filled_part from_blank
-rest_lent [] = refl
-rest_lent (p ∷ []) = refl
-rest_lent (p ∷ (q ∷ ws)) = go (is_blank (record { price = p; quantity = q })) (rest_lent ws)
+rest_after : (l : List Pair) → drop (length (filled_part l)) l ≡ from_blank l
+unfolding filled_part from_blank
+rest_after [] = refl
+rest_after (x ∷ l) = go (is_blank x) (rest_after l)
   where
-    go : (t : Bool) → pairs_in (drop (2 * length (filled_part (pairs_in ws))) ws) ≡ from_blank (pairs_in ws)
-        → pairs_in (drop (2 * length (cond t [] (record { price = p; quantity = q } ∷ filled_part (pairs_in ws)))) (p ∷ (q ∷ ws)))
-        ≡ cond t (record { price = p; quantity = q } ∷ pairs_in ws) (from_blank (pairs_in ws))
+    go : (t : Bool) → drop (length (filled_part l)) l ≡ from_blank l → drop (length (cond t [] (x ∷ filled_part l))) (x ∷ l) ≡ cond t (x ∷ l) (from_blank l)
     go true k = refl
-    go false k =
-        let n = length (filled_part (pairs_in ws)) in
-        let e : 2 * suc n ≡ suc (suc (2 * n)) = omega arith in
-        rw e k
+    go false k = k
 
 -- 12 goes by them alone
 refused_rest : (l : List Pair) → blank_refused l ≡ blank_refused (from_blank l)
@@ -185,130 +158,255 @@ module _ (lowest highest : Price) where
   abbrev is_out : Pair → Bool
   is_out = pair_is_out lowest highest
 
-  abbrev found : Findings → List Pair → Findings
+  abbrev found : Findings → List Pair → Result Findings Refusal
   found = found_from lowest highest
 
-  -- a pair out of range is the end of the walk
-  out_found : (f : Findings) (l : List Pair) → f.out_of_range ≡ false → (found f l).out_of_range ≡ true → any_pair is_out l ≡ true
-  unfolding found_from any_pair with_filled
-  out_found f [] z h = absurd (false≢true (sym z ∙ h))
-  out_found f (x ∷ l) z h = go (is_out x) (blank (quantity_of x.quantity)) (found (one_more f x) l) h (out_found (one_more f x) l z)
+  -- ---- one pair more, and more pairs
+
+  abbrev turn : Findings → Pair → Result Findings Refusal → Bool → Bool → Result Findings Refusal
+  turn f x on t b = cond t (Err OutOfRange) (cond b (Ok f) on)
+
+  pub found_ends : (f : Findings) (x : Pair) (l : List Pair) → is_out x ≡ true → found f (x ∷ l) ≡ Err OutOfRange
+  unfolding found_from
+  found_ends f x l o = ap (λ (t : Bool). turn f x (found (one_more f x) l) t (blank (quantity_of x.quantity))) o
+
+  pub found_stops : (f : Findings) (x : Pair) (l : List Pair) → is_out x ≡ false → is_blank x ≡ true → found f (x ∷ l) ≡ Ok f
+  unfolding found_from is_blank
+  found_stops f x l o b = ap₂ (λ (t s : Bool). turn f x (found (one_more f x) l) t s) o b
+
+  pub found_goes_on : (f : Findings) (x : Pair) (l : List Pair) → is_out x ≡ false → is_blank x ≡ false → found f (x ∷ l) ≡ found (one_more f x) l
+  unfolding found_from is_blank
+  found_goes_on f x l o b = ap₂ (λ (t s : Bool). turn f x (found (one_more f x) l) t s) o b
+
+  pub found_none : (f : Findings) → found f [] ≡ Ok f
+  unfolding found_from
+  found_none f = refl
+
+  -- among pairs two words each
+  module _ (f : Findings) (ws : List (List ℤ)) (i : ℕ) where
+    pub none_left : length ws ≤ i → found f (pairs_of (drop i ws)) ≡ Ok f
+    none_left h = rw (drop_of_length-le ws h) (found_none f)
+
+    module _ (x : typed.Pair) (h : i < length ws) (e : x ≡ typed (get_or ws i [])) where
+      next : pairs_of (drop i ws) ≡ pair_of x ∷ pairs_of (drop (i + 1) ws)
+      next = rw e (pair_next ws i h)
+
+      pub ends_here : is_out (pair_of x) ≡ true → found f (pairs_of (drop i ws)) ≡ Err OutOfRange
+      ends_here o = ap (found f) next ∙ found_ends f (pair_of x) (pairs_of (drop (i + 1) ws)) o
+
+      pub stops_here : is_out (pair_of x) ≡ false → is_blank (pair_of x) ≡ true → found f (pairs_of (drop i ws)) ≡ Ok f
+      stops_here o b = ap (found f) next ∙ found_stops f (pair_of x) (pairs_of (drop (i + 1) ws)) o b
+
+      pub goes_on_here : is_out (pair_of x) ≡ false → is_blank (pair_of x) ≡ false
+          → found f (pairs_of (drop i ws)) ≡ found (with_filled f x.price x.quantity) (pairs_of (drop (i + 1) ws))
+      goes_on_here o b = ap (found f) next ∙ found_goes_on f (pair_of x) (pairs_of (drop (i + 1) ws)) o b
+
+  -- where it ends among some pairs, it ends there among more
+  pub ends_before : (f : Findings) (a b : List Pair) (r : Refusal) → found f a ≡ Err r → found f (a ++ b) ≡ Err r
+  unfolding found_from
+  ends_before f [] b r h = absurd (cc)
+  ends_before f (x ∷ a) b r h = go (is_out x) (blank (quantity_of x.quantity)) h (ends_before (one_more f x) a b r)
     where
-      go : (t b : Bool) (g : Findings) → (cond t refused (cond b f g)).out_of_range ≡ true → (g.out_of_range ≡ true → any_pair is_out l ≡ true) → (t || any_pair is_out l) ≡ true
-      go true b g k later = refl
-      go false true g k later = absurd (false≢true (sym z ∙ k))
-      go false false g k later = later k
+      go : (t s : Bool) → turn f x (found (one_more f x) a) t s ≡ Err r → (found (one_more f x) a ≡ Err r → found (one_more f x) (a ++ b) ≡ Err r)
+          → turn f x (found (one_more f x) (a ++ b)) t s ≡ Err r
+      go true s k later = k
+      go false true k later = k
+      go false false k later = later k
+
+  pub stops_before : (f g : Findings) (a b : List Pair) → found f a ≡ Ok g → g.filled < f.filled + length a → found f (a ++ b) ≡ Ok g
+  unfolding found_from with_filled
+  stops_before f g [] b h k =
+      let e : g.filled ≡ f.filled = cc in
+      absurd (omega arith)
+  stops_before f g (x ∷ a) b h k =
+      go (is_out x) (blank (quantity_of x.quantity)) h (λ e. stops_before (one_more f x) g a b e (omega arith))
+    where
+      go : (t s : Bool) → turn f x (found (one_more f x) a) t s ≡ Ok g → (found (one_more f x) a ≡ Ok g → found (one_more f x) (a ++ b) ≡ Ok g)
+          → turn f x (found (one_more f x) (a ++ b)) t s ≡ Ok g
+      go true s e later = e
+      go false true e later = e
+      go false false e later = later e
+
+  pub goes_past : (f g : Findings) (a b : List Pair) → found f a ≡ Ok g → f.filled + length a ≤ g.filled → found f (a ++ b) ≡ found g b
+  unfolding found_from with_filled
+  goes_past f g [] b h k = let e : f ≡ g = cc in ap (λ (y : Findings). found y b) e
+  goes_past f g (x ∷ a) b h k =
+      go (is_out x) (blank (quantity_of x.quantity)) h (λ e. goes_past (one_more f x) g a b e (omega arith))
+    where
+      go : (t s : Bool) → turn f x (found (one_more f x) a) t s ≡ Ok g → (found (one_more f x) a ≡ Ok g → found (one_more f x) (a ++ b) ≡ found g b)
+          → turn f x (found (one_more f x) (a ++ b)) t s ≡ found g b
+      go true s e later = absurd (cc)
+      go false true e later =
+          let n : f.filled ≡ g.filled = cc in
+          absurd (omega arith)
+      go false false e later = later e
+
+  -- a pair out of range is the end of the walk
+  out_found : (f : Findings) (l : List Pair) (r : Refusal) → found f l ≡ Err r → (any_pair is_out l ≡ true) × (number r ≡ 11)
+  unfolding found_from any_pair
+  out_found f [] r h = absurd (cc)
+  out_found f (x ∷ l) r h = go (is_out x) (blank (quantity_of x.quantity)) h (out_found (one_more f x) l r)
+    where
+      go : (t b : Bool) → turn f x (found (one_more f x) l) t b ≡ Err r → (found (one_more f x) l ≡ Err r → (any_pair is_out l ≡ true) × (number r ≡ 11))
+          → ((t || any_pair is_out l) ≡ true) × (number r ≡ 11)
+      go true b k later = (refl, sym (ap drawn k))
+      go false true k later = absurd (cc)
+      go false false k later = later k
 
   -- where it has found none, it has gone to the end of the filled part
-  gone : (f : Findings) (l : List Pair) → (found f l).out_of_range ≡ false → found f l ≡ walked f (filled_part l)
+  gone : (f g : Findings) (l : List Pair) → found f l ≡ Ok g → g ≡ walked f (filled_part l)
   unfolding found_from filled_part is_blank
-  gone f [] h = refl
-  gone f (x ∷ l) h = go (is_out x) (blank (quantity_of x.quantity)) (found (one_more f x) l) h (gone (one_more f x) l)
+  gone f g [] h = let e : g ≡ f = cc in e
+  gone f g (x ∷ l) h = go (is_out x) (blank (quantity_of x.quantity)) h (gone (one_more f x) g l)
     where
-      go : (t b : Bool) (g : Findings) → (cond t refused (cond b f g)).out_of_range ≡ false → (g.out_of_range ≡ false → g ≡ walked (one_more f x) (filled_part l))
-          → cond t refused (cond b f g) ≡ walked f (cond b [] (x ∷ filled_part l))
-      go true b g k later = absurd (true≢false k)
-      go false true g k later = refl
-      go false false g k later = later k
+      go : (t b : Bool) → turn f x (found (one_more f x) l) t b ≡ Ok g → (found (one_more f x) l ≡ Ok g → g ≡ walked (one_more f x) (filled_part l))
+          → g ≡ walked f (cond b [] (x ∷ filled_part l))
+      go true b k later = absurd (cc)
+      go false true k later = let e : g ≡ f = cc in e
+      go false false k later = later k
 
   -- and what is out of range comes from the first blank on
-  out_rest : (f : Findings) (l : List Pair) → (found f l).out_of_range ≡ false → any_pair is_out l ≡ any_pair is_out (from_blank l)
+  out_rest : (f g : Findings) (l : List Pair) → found f l ≡ Ok g → any_pair is_out l ≡ any_pair is_out (from_blank l)
   unfolding found_from any_pair from_blank is_blank
-  out_rest f [] h = refl
-  out_rest f (x ∷ l) h = go (is_out x) (blank (quantity_of x.quantity)) (found (one_more f x) l) refl h (out_rest (one_more f x) l)
+  out_rest f g [] h = refl
+  out_rest f g (x ∷ l) h = go (is_out x) (blank (quantity_of x.quantity)) refl h (out_rest (one_more f x) g l)
     where
-      go : (t b : Bool) (g : Findings) → is_out x ≡ t → (cond t refused (cond b f g)).out_of_range ≡ false → (g.out_of_range ≡ false → any_pair is_out l ≡ any_pair is_out (from_blank l))
+      go : (t b : Bool) → is_out x ≡ t → turn f x (found (one_more f x) l) t b ≡ Ok g
+          → (found (one_more f x) l ≡ Ok g → any_pair is_out l ≡ any_pair is_out (from_blank l))
           → (t || any_pair is_out l) ≡ any_pair is_out (cond b (x ∷ l) (from_blank l))
-      go true b g e k later = absurd (true≢false k)
-      go false true g e k later = rw e
-      go false false g e k later = later k
+      go true b e k later = absurd (cc)
+      go false true e k later = rw e
+      go false false e k later = later k
 
   -- empty pairs are out of range all or none
-  alike : (x : Pair) → is_empty (price_of x.price) (quantity_of x.quantity) ≡ true → x ≡ record { price = pos 0; quantity = pos 0 }
+  alike : (x : Pair) → is_empty (price_of x.price) (quantity_of x.quantity) ≡ true → x ≡ no_pair
   alike x h = ap₂ (λ (p q : ℤ). record { price = p; quantity = q }) (same_word x.price (pos 0) (and_right (eq_z x.quantity (pos 0)) _ h)) (same_word x.quantity (pos 0) (and_left (eq_z x.quantity (pos 0)) _ h))
 
-  empty_in : is_out (record { price = pos 0; quantity = pos 0 }) ≡ false → (l : List Pair) → all_empty l ≡ true → any_pair is_out l ≡ false
+  empty_in : is_out no_pair ≡ false → (l : List Pair) → all_empty l ≡ true → any_pair is_out l ≡ false
   unfolding any_pair all_empty
   empty_in z [] h = refl
   empty_in z (x ∷ l) h =
       let e = is_empty (price_of x.price) (quantity_of x.quantity) in
       rw (alike x (and_left e (all_empty l) h), z) (empty_in z l (and_right e (all_empty l) h))
 
-  -- the walk has ended at one that is in range
-  rest_in : (f : Findings) (l : List Pair) → (found f l).out_of_range ≡ false → all_empty (from_blank l) ≡ true → any_pair is_out (from_blank l) ≡ false
-  unfolding found_from any_pair from_blank is_blank
-  rest_in f [] h k = refl
-  rest_in f (x ∷ l) h k = go (is_out x) (blank (quantity_of x.quantity)) (found (one_more f x) l) refl h k (rest_in (one_more f x) l)
+  -- the walk ends at an empty pair: it is refused, or blank
+  pub suffices : (f : Findings) (l : List Pair) → all_empty l ≡ true → is_out no_pair ≡ false → found f l ≡ Ok f
+  unfolding all_empty is_blank
+  suffices f [] h o = found_none f
+  suffices f (x ∷ l) h o =
+      let e = alike x (and_left (is_empty (price_of x.price) (quantity_of x.quantity)) (all_empty l) h) in
+      found_stops f x l (ap is_out e ∙ o) (ap is_blank e)
+
+  pub counts_none : (f g : Findings) (l : List Pair) → all_empty l ≡ true → found f l ≡ Ok g → g ≡ f
+  unfolding found_from all_empty
+  counts_none f g [] h k = let e : g ≡ f = cc in e
+  counts_none f g (x ∷ l) h k =
+      let b = and_left (eq_z x.quantity (pos 0)) _ (and_left (is_empty (price_of x.price) (quantity_of x.quantity)) (all_empty l) h) in
+      go (is_out x) (rw b at k)
     where
-      go : (t b : Bool) (g : Findings) → is_out x ≡ t → (cond t refused (cond b f g)).out_of_range ≡ false → all_empty (cond b (x ∷ l) (from_blank l)) ≡ true
-          → (g.out_of_range ≡ false → all_empty (from_blank l) ≡ true → any_pair is_out (from_blank l) ≡ false)
+      go : (t : Bool) → turn f x (found (one_more f x) l) t true ≡ Ok g → g ≡ f
+      go true k = absurd (cc)
+      go false k = let e : g ≡ f = cc in e
+
+  -- five pairs of ten
+  module _ (ws : List (List ℤ)) (l : List Pair) (e : pairs_of ws ≡ l) (n : length ws ≡ 10) where
+    parted : pairs_of (take 5 ws) ++ pairs_of (drop 5 ws) ≡ l
+    parted =
+        sym (map-append (λ words. pair_of (typed words)) (take 5 ws) (drop 5 ws)) ∙ ap pairs_of (take-append-drop 5 ws) ∙ e
+
+    five_long : length (pairs_of (take 5 ws)) ≡ 5
+    five_long = length-map (take 5 ws) (λ words. pair_of (typed words)) ∙ length-take-le 5 ws (omega arith)
+
+    pub five_end : (r : Refusal) → found none_yet (pairs_of (take 5 ws)) ≡ Err r → found none_yet l ≡ Err r
+    five_end r h = rw (← parted) (ends_before none_yet (pairs_of (take 5 ws)) (pairs_of (drop 5 ws)) r h)
+
+    pub five_stop : (g : Findings) → found none_yet (pairs_of (take 5 ws)) ≡ Ok g → g.filled < 5 → found none_yet l ≡ Ok g
+    five_stop g h k = rw (← parted) (stops_before none_yet g (pairs_of (take 5 ws)) (pairs_of (drop 5 ws)) h (omega (arith, five_long)))
+
+    pub five_pass : (g : Findings) → found none_yet (pairs_of (take 5 ws)) ≡ Ok g → 5 ≤ g.filled → found none_yet l ≡ found g (pairs_of (drop 5 ws))
+    five_pass g h k = rw (← parted) (goes_past none_yet g (pairs_of (take 5 ws)) (pairs_of (drop 5 ws)) h (omega (arith, five_long)))
+
+    -- the other five, where no more are used
+    module _ (s : ℕ) (unused : all_empty (drop (used_pairs s) l) ≡ true) where
+      other_empty : eqb s 0 ≡ false → all_empty (pairs_of (drop 5 ws)) ≡ true
+      other_empty z = rw (← drop-map (λ words. pair_of (typed words)) 5 ws, e) (rw z at unused)
+
+      pub five_suffice : (g : Findings) → (not (eqb s 0) && not (is_out no_pair)) ≡ true → found g (pairs_of (drop 5 ws)) ≡ Ok g
+      five_suffice g h =
+          suffices g (pairs_of (drop 5 ws)) (other_empty (not-true (eqb s 0) (and_left (not (eqb s 0)) (not (is_out no_pair)) h))) (not-true (is_out no_pair) (and_right (not (eqb s 0)) (not (is_out no_pair)) h))
+
+      pub used_counted : (g : Findings) → g.filled ≤ 5 → (r : Result Findings Refusal) → r ≡ found g (pairs_of (drop 5 ws)) → IfOk r (λ f. f.filled ≤ 10) → IfOk r (λ f. f.filled ≤ used_pairs s)
+      used_counted g m (Err r) h k = k
+      used_counted g m (Ok f) h k = go (eqb s 0) refl
+        where
+          go : (t : Bool) → eqb s 0 ≡ t → f.filled ≤ cond t 10 5
+          go true z = k
+          go false z = rw (counts_none g f (pairs_of (drop 5 ws)) (other_empty z) (sym h)) m
+
+  -- the walk has ended at one that is in range
+  rest_in : (f g : Findings) (l : List Pair) → found f l ≡ Ok g → all_empty (from_blank l) ≡ true → any_pair is_out (from_blank l) ≡ false
+  unfolding found_from any_pair from_blank is_blank
+  rest_in f g [] h k = refl
+  rest_in f g (x ∷ l) h k = go (is_out x) (blank (quantity_of x.quantity)) refl h k (rest_in (one_more f x) g l)
+    where
+      go : (t b : Bool) → is_out x ≡ t → turn f x (found (one_more f x) l) t b ≡ Ok g → all_empty (cond b (x ∷ l) (from_blank l)) ≡ true
+          → (found (one_more f x) l ≡ Ok g → all_empty (from_blank l) ≡ true → any_pair is_out (from_blank l) ≡ false)
           → any_pair is_out (cond b (x ∷ l) (from_blank l)) ≡ false
-      go true b g e j i later = absurd (true≢false j)
-      go false true g e j i later =
+      go true b e j i later = absurd (cc)
+      go false true e j i later =
           let m = is_empty (price_of x.price) (quantity_of x.quantity) in
           empty_in (ap is_out (sym (alike x (and_left m (all_empty l) (unfold all_empty in i)))) ∙ e) (x ∷ l) i
-      go false false g e j i later = later j i
+      go false false e j i later = later j i
 
   -- ---- 11 to 13 of an offer's pairs, as the code tells them apart by what a walk finds
 
-  module _ (ws : List ℤ) (f : Findings) (is_found : f ≡ found none_yet (pairs_in ws)) where
-    abbrev l : List Pair
-    l = pairs_in ws
+  pub draws_11 : (l : List Pair) (r : Refusal) → found none_yet l ≡ Err r → number r ≡ pairs_number lowest highest l
+  unfolding pairs_number draw ◌then◌
+  draws_11 l r h = let k = out_found none_yet l r h in rw k.0 k.1
 
+  module _ (l : List Pair) (f : Findings) (is_found : found none_yet l ≡ Ok f) where
     -- from the first blank on
     abbrev rest : List Pair
-    rest = pairs_in (drop (2 * f.filled) ws)
+    rest = drop f.filled l
 
-    pub draws_11 : f.out_of_range ≡ true → pairs_number lowest highest l ≡ 11
+    to_first_blank : f ≡ walked none_yet (filled_part l)
+    to_first_blank = gone none_yet f l is_found
+
+    rest_is : rest ≡ from_blank l
+    rest_is =
+        let e : f.filled ≡ length (filled_part l) = ap (λ (g : Findings). g.filled) to_first_blank ∙ walked_count none_yet (filled_part l) ∙ omega arith in
+        rw e (rest_after l)
+
+    pub draws_11_or_12 : all_empty rest ≡ false → pairs_number lowest highest l ≡ cond (any_pair is_out rest) 11 12
     unfolding pairs_number draw ◌then◌
-    draws_11 h = rw (out_found none_yet l refl (rw is_found at h))
+    draws_11_or_12 e = rw (rest_is, out_rest none_yet f l is_found, refused_rest l, rest_refused l (rw rest_is at e)) (go (any_pair is_out (from_blank l)))
+      where
+        go : (t : Bool) → ◌≡◌ {A = ℕ} (draw t 11 then (draw true 12 then draw (not (rises (non_blank_prices l))) 13)) (cond t 11 12)
+        go true = refl
+        go false = refl
 
-    module _ (h : f.out_of_range ≡ false) where
-      none_out : (found none_yet l).out_of_range ≡ false
-      none_out = rw is_found at h
+    module _ (e : all_empty rest ≡ true) where
+      rest_empty : all_empty (from_blank l) ≡ true
+      rest_empty = rw rest_is at e
 
-      to_first_blank : f ≡ walked none_yet (filled_part l)
-      to_first_blank = is_found ∙ gone none_yet l none_out
+      none_refused : blank_refused l ≡ false
+      none_refused = refused_rest l ∙ empty_passes (from_blank l) rest_empty
 
-      rest_is : rest ≡ from_blank l
-      rest_is =
-          let e : f.filled ≡ length (filled_part l) = ap (λ (g : Findings). g.filled) to_first_blank ∙ walked_count none_yet (filled_part l) ∙ omega arith in
-          rw e (rest_lent ws)
+      -- the promise
+      pub come_first : BlanksLast l
+      unfolding blank_refused
+      come_first = none_before l (or_right (any_pair is_priced_blank l) (blank_before_filled l) none_refused)
 
-      pub draws_11_or_12 : all_empty rest ≡ false → pairs_number lowest highest l ≡ cond (any_pair is_out rest) 11 12
+      -- the price order and the total rest on it
+      order_found : f.rises ≡ rises (non_blank_prices l)
+      order_found = ap (λ (g : Findings). g.rises) to_first_blank ∙ walked_rises none_yet l ∙ ap rises (sym (prices_of_first come_first))
+
+      pub total_found : f.total.0 ≡ sum_of l
+      total_found = ap (λ (g : Findings). g.total.0) to_first_blank ∙ walked_total none_yet (filled_part l) ∙ +ℤ_idl (sum_of (filled_part l)) ∙ sym (sum_of_first come_first)
+
+      pub draws_13_or_none : pairs_number lowest highest l ≡ draw (not f.rises) 13
       unfolding pairs_number draw ◌then◌
-      draws_11_or_12 e = rw (rest_is, out_rest none_yet l none_out, refused_rest l, rest_refused l (rw rest_is at e)) (go (any_pair is_out (from_blank l)))
-        where
-          go : (t : Bool) → ◌≡◌ {A = ℕ} (draw t 11 then (draw true 12 then draw (not (rises (non_blank_prices l))) 13)) (cond t 11 12)
-          go true = refl
-          go false = refl
-
-      module _ (e : all_empty rest ≡ true) where
-        rest_empty : all_empty (from_blank l) ≡ true
-        rest_empty = rw rest_is at e
-
-        none_refused : blank_refused l ≡ false
-        none_refused = refused_rest l ∙ empty_passes (from_blank l) rest_empty
-
-        -- the promise
-        pub come_first : BlanksLast l
-        unfolding blank_refused
-        come_first = none_before l (or_right (any_pair is_priced_blank l) (blank_before_filled l) none_refused)
-
-        -- the price order and the total rest on it
-        order_found : f.rises ≡ rises (non_blank_prices l)
-        order_found = ap (λ (g : Findings). g.rises) to_first_blank ∙ walked_rises none_yet l ∙ ap rises (sym (prices_of_first come_first))
-
-        pub total_found : f.total.0 ≡ sum_of l
-        total_found = ap (λ (g : Findings). g.total.0) to_first_blank ∙ walked_total none_yet (filled_part l) ∙ +ℤ_idl (sum_of (filled_part l)) ∙ sym (sum_of_first come_first)
-
-        pub draws_13_or_none : pairs_number lowest highest l ≡ cond f.rises 0 13
-        unfolding pairs_number draw ◌then◌
-        draws_13_or_none = rw (out_rest none_yet l none_out, rest_in none_yet l none_out rest_empty, none_refused, order_found) (go (rises (non_blank_prices l)))
-          where
-            go : (t : Bool) → ◌≡◌ {A = ℕ} (draw false 11 then (draw false 12 then draw (not t) 13)) (cond t 0 13)
-            go true = refl
-            go false = refl
+      draws_13_or_none = rw (out_rest none_yet f l is_found, rest_in none_yet f l is_found rest_empty, none_refused, order_found)
 
 -- ---- words that are all 0 are empty pairs
 
@@ -340,16 +438,6 @@ pub none_left_empty : (ws : List ℤ) (n : ℕ) → length ws ≤ n → all_empt
 unfolding all_empty
 none_left_empty ws n h = ap all_empty (no_pairs_from ws n (omega arith))
 
--- the same of pairs out of range
-pub out_from : (lowest highest : Price) (ws : List ℤ) (i : ℕ) → 2 * i + 1 < length ws
-    → any_pair (pair_is_out lowest highest) (pairs_in (drop (2 * i) ws)) ≡ (pair_is_out lowest highest (pair_at ws i) || any_pair (pair_is_out lowest highest) (pairs_in (drop (2 * (i + 1)) ws)))
-unfolding any_pair
-out_from lowest highest ws i h = ap (any_pair (pair_is_out lowest highest)) (pairs_from ws i h)
-
-pub none_left_out : (lowest highest : Price) (ws : List ℤ) (n : ℕ) → length ws ≤ n → any_pair (pair_is_out lowest highest) (pairs_in (drop n ws)) ≡ false
-unfolding any_pair
-none_left_out lowest highest ws n h = ap (any_pair (pair_is_out lowest highest)) (no_pairs_from ws n (omega arith))
-
 -- the last k pairs, from the i-th on
 zeros_empty : (ws : List ℤ) (k i : ℕ) → length ws ≡ 2 * (i + k) → any_beyond (pos 0) (pos 0) ws (2 * i) (2 * k) ≡ false → all_empty (pairs_in (drop (2 * i) ws)) ≡ true
 zeros_empty ws zero i h z = none_left_empty ws (2 * i) (omega arith)
@@ -363,35 +451,64 @@ zeros_empty ws (suc k) i h z =
 last_five_empty : (ws : List ℤ) → length ws ≡ 20 → any_beyond (pos 0) (pos 0) ws 10 10 ≡ false → all_empty (pairs_in (drop 10 ws)) ≡ true
 last_five_empty ws h z = zeros_empty ws 5 5 h z
 
--- a walk that has passed five pairs ends there, where no more are used and 11 doesn't refuse an empty one
-pub five_suffice : (lowest highest : Price) (f : Findings) (s : ℕ) (ws : List ℤ) → length ws ≡ 20 → FiveUsed s ws
-    → (not (eqb s 0) && not (is_out_of_range lowest highest (price_of (pos 0)) (quantity_of (pos 0)))) ≡ true → found_from lowest highest f (pairs_in (drop 10 ws)) ≡ f
-five_suffice lowest highest f s ws h five suffice =
-    let other = eqb-false s 0 (not-true (eqb s 0) (and_left (not (eqb s 0)) _ suffice)) in
-    let e = sym (empty_from ws 5 (omega arith)) ∙ last_five_empty ws h (five other) in
-    let x = alike lowest highest (pair_at ws 5) (and_left (is_empty (price_of (pair_at ws 5).price) (quantity_of (pair_at ws 5).quantity)) _ e) in
-    found_stops lowest highest f ws 5 (price_of (pos 0)) (quantity_of (pos 0)) (omega arith) (ap (λ (y : Pair). price_of y.price) (sym x)) (ap (λ (y : Pair). quantity_of y.quantity) (sym x)) (not-true _ (and_right (not (eqb s 0)) _ suffice)) refl
-
-pub ends_at_ten : (lowest highest : Price) (f : Findings) (ws : List ℤ) (t : Bool) → length ws ≡ 20 → cond t f (found_from lowest highest f (pairs_in (drop 20 ws))) ≡ f
-ends_at_ten lowest highest f ws true h = refl
-ends_at_ten lowest highest f ws false h = found_whole lowest highest f ws 20 (omega arith)
+-- five pairs dropped
+pairs_dropped : (k : ℕ) (ws : List ℤ) → pairs_in (drop (2 * k) ws) ≡ drop k (pairs_in ws)
+unfolding pairs_in
+pairs_dropped zero ws = refl
+pairs_dropped (suc k) [] = let e : 2 * suc k ≡ suc (suc (2 * k)) = omega arith in rw e
+pairs_dropped (suc k) (p ∷ []) = let e : 2 * suc k ≡ suc (suc (2 * k)) = omega arith in rw e
+pairs_dropped (suc k) (p ∷ (q ∷ ws)) = let e : 2 * suc k ≡ suc (suc (2 * k)) = omega arith in rw e (pairs_dropped k ws)
 
 -- the pairs that a service doesn't use are empty
-pub unused_empty : (s : ℕ) (ws : List ℤ) → length ws ≡ 20 → FiveUsed s ws → all_empty (pairs_in (drop (2 * used_pairs s) ws)) ≡ true
-unused_empty s ws h five = go (eqb s 0) refl
+pub unused_empty : (s : ℕ) (o : List ℤ) → length o ≡ 23 → UsesFive s o → all_empty (drop (used_pairs s) (pairs o)) ≡ true
+unfolding pairs
+unused_empty s o h five = go (eqb s 0) refl
   where
-    go : (t : Bool) → eqb s 0 ≡ t → all_empty (pairs_in (drop (2 * cond t 10 5) ws)) ≡ true
-    go true e = none_left_empty ws 20 (omega arith)
-    go false e = last_five_empty ws h (five (eqb-false s 0 e))
+    go : (t : Bool) → eqb s 0 ≡ t → all_empty (drop (cond t 10 5) (pairs_in (drop 3 o))) ≡ true
+    go true e = rw (← pairs_dropped 10 (drop 3 o)) (none_left_empty (drop 3 o) 20 (omega (arith, length-drop 3 o)))
+    go false e = rw (← pairs_dropped 5 (drop 3 o)) (last_five_empty (drop 3 o) (omega (arith, length-drop 3 o)) (five (eqb-false s 0 e)))
 
--- pairs past empty ones are empty
-empty_next : (ws : List ℤ) (a : ℕ) → all_empty (pairs_in (drop (2 * a) ws)) ≡ true → all_empty (pairs_in (drop (2 * (a + 1)) ws)) ≡ true
-empty_next ws a h = go (ltb (2 * a + 1) (length ws)) refl
-  where
-    go : (t : Bool) → ltb (2 * a + 1) (length ws) ≡ t → all_empty (pairs_in (drop (2 * (a + 1)) ws)) ≡ true
-    go true e = and_right (is_empty (price_of (pair_at ws a).price) (quantity_of (pair_at ws a).quantity)) _ (sym (empty_from ws a (ltb-true (2 * a + 1) (length ws) e)) ∙ h)
-    go false e = let k = ltb-false (2 * a + 1) (length ws) e in none_left_empty ws (2 * (a + 1)) (omega (arith, k))
+-- ---- pairs two words each, tested one by one
 
-pub empty_on : (ws : List ℤ) (a k : ℕ) → all_empty (pairs_in (drop (2 * a) ws)) ≡ true → all_empty (pairs_in (drop (2 * (a + k)) ws)) ≡ true
-empty_on ws a zero h = let e : a + 0 ≡ a = omega arith in rw e h
-empty_on ws a (suc k) h = let e : a + suc k ≡ (a + 1) + k = omega arith in rw e (empty_on ws (a + 1) k (empty_next ws a h))
+all_tested : (ws : List (List ℤ)) → list_all (λ words. is_empty (typed words).price (typed words).quantity) ws ≡ all_empty (pairs_of ws)
+unfolding all_empty
+all_tested [] = refl
+all_tested (x ∷ ws) =
+    ap (λ (t : Bool). is_empty (typed x).price (typed x).quantity && t) (all_tested ws)
+
+any_tested : (lowest highest : Price) (ws : List (List ℤ)) → list_any (λ words. pair_is_out lowest highest (pair_of (typed words))) ws ≡ any_pair (pair_is_out lowest highest) (pairs_of ws)
+unfolding any_pair
+any_tested lowest highest [] = refl
+any_tested lowest highest (x ∷ ws) =
+    ap (λ (t : Bool). pair_is_out lowest highest (pair_of (typed x)) || t) (any_tested lowest highest ws)
+
+-- empty pairs at the end change nothing
+then_empty : (a b : List Pair) → all_empty b ≡ true → all_empty a ≡ all_empty (a ++ b)
+unfolding all_empty
+then_empty [] b h = sym h
+then_empty (x ∷ a) b h =
+    ap (λ (t : Bool). is_empty (price_of x.price) (quantity_of x.quantity) && t) (then_empty a b h)
+
+module _ (ws : List (List ℤ)) (l : List Pair) (e : pairs_of ws ≡ l) (from : ℕ) where
+  rest_listed : pairs_of (drop from ws) ≡ drop from l
+  rest_listed = sym (drop-map (λ words. pair_of (typed words)) from ws) ∙ ap (drop from) e
+
+  pub tested_empty : (to : ℕ) → from ≤ to → all_empty (drop to l) ≡ true
+      → list_all (λ words. is_empty (typed words).price (typed words).quantity) (take (to - from) (drop from ws)) ≡ all_empty (drop from l)
+  tested_empty to h empty =
+      let there : from + (to - from) ≡ to = omega arith in
+      let a = take (to - from) (drop from ws) in
+      let b = drop (to - from) (drop from ws) in
+      let after : pairs_of b ≡ drop to l =
+          ap pairs_of (drop-drop (to - from) from ws) ∙ rw there (sym (drop-map (λ words. pair_of (typed words)) to ws) ∙ ap (drop to) e)
+      in
+      all_tested a
+      ∙ then_empty (pairs_of a) (pairs_of b) (ap all_empty after ∙ empty)
+      ∙ ap all_empty (sym (map-append (λ words. pair_of (typed words)) a b) ∙ ap pairs_of (take-append-drop (to - from) (drop from ws)) ∙ rest_listed)
+
+  pub tested_out : (lowest highest : Price) → length ws ≡ 10
+      → list_any (λ words. pair_is_out lowest highest (pair_of (typed words))) (take (10 - from) (drop from ws)) ≡ any_pair (pair_is_out lowest highest) (drop from l)
+  tested_out lowest highest n =
+      ap (list_any (λ words. pair_is_out lowest highest (pair_of (typed words)))) (take_all (10 - from) (drop from ws) (omega (arith, length-drop from ws)))
+      ∙ any_tested lowest highest (drop from ws)
+      ∙ ap (any_pair (pair_is_out lowest highest)) rest_listed

@@ -1,22 +1,28 @@
 -- The tests of a pair over typed prices and quantities, and what a walk through the pairs finds up to the first blank.
 -- proofs/Walks shows that what it finds, and what is tested of the pairs after it, gives refusals 11 to 13.
-use Rattle.std.specs.Prelude.{◌≡◌, Bool, true, false, not, cond, ◌&&◌, ◌||◌, List, [], ◌∷◌, ℕ, ◌+◌, eqb, ℤ, pos, ◌+ℤ◌, drop}
+use Rattle.std.specs.Prelude.{◌≡◌, Bool, true, false, not, cond, ◌&&◌, List, [], ◌∷◌, map, ℕ, ◌+◌, eqb, ℤ, pos, ◌+ℤ◌, drop, Option, Some, None, Result, Ok, Err}
 use Rattle.std.specs.Int.Signed.{lt_z}
 use Rattle.offer_rules.specs.Numbers.{eq_z, any_beyond, draw, ◌then◌}
 use Rattle.offer_rules.specs.Offer.{Pair, any_pair, pair_beyond, blank_refused, non_blank_prices, rises}
-use Rattle.units.specs.Typed.{price_of, quantity_of}
+use Rattle.layout.specs.declared.refusal.Refusal.{Refusal}
+use Rattle.layout.specs.declared.refusal.Refusal.TheVariants.{OutOfRange}
+use Rattle.units.specs.Typed.{price_of, quantity_of, typed, pair_of}
 use Rattle.units.specs.declared.Price.{Price}
 use Rattle.units.specs.declared.Quantity.{Quantity}
-use Rattle.offers.specs.declared.pairs.Findings.{Findings}
+use Rattle.offers.specs.declared.walk.Findings.{Findings}
+
+-- Pairs two words each, as the rule's.
+abbrev pub pairs_of : List (List ℤ) → List Pair
+pairs_of = map (λ words. pair_of (typed words))
 
 abbrev pub blank : Quantity → Bool
 blank q = eq_z q.0 (pos 0)
 
-abbrev pub is_out_of_range : Price → Price → Price → Quantity → Bool
-is_out_of_range lowest highest p q = pair_beyond lowest.0 highest.0 (record { price = p.0; quantity = q.0 })
-
 abbrev pub pair_is_out : Price → Price → Pair → Bool
 pair_is_out lowest highest x = pair_beyond lowest.0 highest.0 x
+
+abbrev pub no_pair : Pair
+no_pair = record { price = pos 0; quantity = pos 0 }
 
 -- A blank pair without a price.
 abbrev pub is_empty : Price → Quantity → Bool
@@ -26,36 +32,36 @@ unfoldable pub all_empty : List Pair → Bool
 all_empty [] = true
 all_empty (x ∷ l) = is_empty (price_of x.price) (quantity_of x.quantity) && all_empty l
 
+-- Whether a price is above the last one, if there is one.
+abbrev pub is_above : Option Price → Price → Bool
+is_above None p = true
+is_above (Some last) p = lt_z last.0 p.0
+
 -- Whether the prices still rise at a pair that isn't blank: the first is held against none.
-unfoldable pub still_rises : Bool → Bool → Price → Price → Bool
-still_rises r any last p = r && (not any || lt_z last.0 p.0)
+unfoldable pub still_rises : Bool → Option Price → Price → Bool
+still_rises r last p = r && is_above last p
 
 -- One pair more before the first blank.
 unfoldable pub with_filled : Findings → Price → Quantity → Findings
 with_filled f p q = record {
-  out_of_range = f.out_of_range;
-  rises = still_rises f.rises f.any f.last p;
-  any = true;
-  last = p;
+  rises = still_rises f.rises f.last p;
+  last = Some p;
   total = record { 0 = f.total.0 +ℤ q.0 };
   filled = f.filled + 1;
 }
 
--- Before the first pair, and at one that 11 refuses, where the walk ends.
+-- Before the first pair.
 abbrev pub none_yet : Findings
-none_yet = record { out_of_range = false; rises = true; any = false; last = price_of (pos 0); total = record { 0 = pos 0 }; filled = 0 }
+none_yet = record { rises = true; last = None; total = record { 0 = pos 0 }; filled = 0 }
 
-abbrev pub refused : Findings
-refused = record { out_of_range = true; rises = true; any = false; last = price_of (pos 0); total = record { 0 = pos 0 }; filled = 0 }
-
--- The walk ends at the first blank too.
-unfoldable pub found_from : Price → Price → Findings → List Pair → Findings
-found_from lowest highest f [] = f
+-- The walk ends at the first pair that 11 refuses, and at the first blank.
+unfoldable pub found_from : Price → Price → Findings → List Pair → Result Findings Refusal
+found_from lowest highest f [] = Ok f
 found_from lowest highest f (x ∷ l) =
-    cond (pair_is_out lowest highest x) refused
-    (cond (blank (quantity_of x.quantity)) f (found_from lowest highest (with_filled f (price_of x.price) (quantity_of x.quantity)) l))
+    cond (pair_is_out lowest highest x) (Err OutOfRange)
+    (cond (blank (quantity_of x.quantity)) (Ok f) (found_from lowest highest (with_filled f (price_of x.price) (quantity_of x.quantity)) l))
 
-abbrev pub found_in : Price → Price → List Pair → Findings
+abbrev pub found_in : Price → Price → List Pair → Result Findings Refusal
 found_in lowest highest l = found_from lowest highest none_yet l
 
 -- 11 to 13 of an offer's pairs, under its service's limits.

@@ -1,10 +1,8 @@
--- A word as a ramp rate or as a proportion.
-use Rattle.std.specs.Prelude.{ℤ}
-use Rattle.offers.specs.declared.capability.Ramp.{Ramp}
-use Rattle.offers.specs.declared.capability.Proportion.{Proportion}
+-- A word as a ramp rate or as a proportion, and a service's price limits.
+use Rattle.std.specs.Prelude.{List, ℕ, ℤ}
+use Rattle.offer_rules.specs.Offer as rule
+use Rattle.units.specs.Typed.{price_of}
+use Rattle.offers.specs.declared.limits.PriceLimits.{PriceLimits}
 
-abbrev pub ramp_of : ℤ → Ramp
-ramp_of z = record { 0 = z }
-
-abbrev pub proportion_of : ℤ → Proportion
-proportion_of z = record { 0 = z }
+abbrev pub limits_of : List ℤ → ℕ → PriceLimits
+limits_of limits s = record { lowest = price_of (rule.lowest_price limits s); highest = price_of (rule.highest_price limits s) }

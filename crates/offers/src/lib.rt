@@ -2,19 +2,24 @@
 // An offer is 23 words (proportion, ramps, ten pairs), a facility's capability 17 words W0 to W16, the price limits 6 words.
 #![tactic(auto)]
 
-ghost use Rattle.std.specs.Prelude.{◌≡◌, ◌≤◌, length};
+ghost use Rattle.std.specs.Prelude.{◌≡◌, ◌≤◌};
 ghost use Rattle.offer_rules.specs.Time.{slot_refused, period_refused};
 ghost use Rattle.offer_rules.specs.Offer.{pairs, BlanksLast, offer_number};
+ghost use Rattle.layout.specs.Refusal.{drawn};
 ghost use Rattle.offers.specs.PairTests.{UsesFive};
 
 mod capability;
+mod filed;
+mod limits;
 mod pairs;
+mod sum;
+mod walk;
 
-use capability::{is_above_capacity, is_proportion_refused, is_ramp_refused};
-use layout::{fields, refusal, time};
-use pairs::judge_offer;
-pub use pairs::{is_all_blank, sum_of};
-use units::{first, is_beyond, nat};
+use filed::Filed;
+use layout::{Refusal, fields, refuse_if, time};
+pub use pairs::is_all_blank;
+pub use sum::sum_of;
+use units::{is_beyond, nat};
 
 // ---- 10: slots and periods
 
@@ -37,34 +42,28 @@ pub fn is_period_refused(clock: u64, period: i32) -> bool
 
 // ---- 11 to 16
 
-// Returns at the first that applies. Where none does, "all non-blank pairs come first".
-pub fn offer_number(
-    limits: &[i32],
-    capability: &[i32],
+// The first that applies. Where none does, "all non-blank pairs come first".
+#[tactic(auto, using(layout::proofs::Chains::passed_first, layout::proofs::Chains::refused_first, crate::proofs::InOrder::in_order, crate::proofs::InOrder::number_at_most))]
+pub fn check_offer(
+    limits: &[i32; 6],
+    capability: &[i32; 17],
     service: u8,
     reason: u8,
-    offer: &[i32],
-) -> u8
-    requires { (length limits.now ≡ 6) × (length capability.now ≡ 17) × (service ≤ 4) × (length offer.now ≡ 23) × UsesFive service offer.now }
-    ensures { (result ≡ offer_number limits.now capability.now service reason offer.now) × (result ≤ 16) × (result ≡ 0 → BlanksLast (pairs offer.now)) }
+    offer: &[i32; 23],
+) -> Result<(), Refusal>
+    requires { (service ≤ 4) × UsesFive service offer.now }
+    ensures { (drawn result ≡ offer_number limits.now capability.now service reason offer.now) × (drawn result ≤ 16) × (drawn result ≡ 0 → BlanksLast (pairs offer.now)) }
 {
-    if fields::LOAD_OUTAGE < reason {
-        return refusal::OUT_OF_RANGE;
-    }
-    let judged = judge_offer(limits, service, offer);
-    if judged.number != 0 {
-        return judged.number;
-    }
-    if is_ramp_refused(capability, service, offer) {
-        return refusal::RAMP_REFUSED;
-    }
-    if is_proportion_refused(capability, service, offer) {
-        return refusal::PROPORTION_REFUSED;
-    }
-    let total = judged.total;
-    first(
-        is_above_capacity(capability, service, total),
-        refusal::ABOVE_CAPACITY,
-        0,
+    refuse_if(fields::LOAD_OUTAGE < reason, Refusal::OutOfRange)?;
+    let filed = Filed { service, offer };
+    let total = filed.judge_pairs(limits)?;
+    refuse_if(filed.is_ramp_refused(capability), Refusal::Ramp)?;
+    refuse_if(
+        filed.is_proportion_refused(capability),
+        Refusal::Proportion,
+    )?;
+    refuse_if(
+        filed.is_above_capacity(capability, total),
+        Refusal::AboveCapacity,
     )
 }

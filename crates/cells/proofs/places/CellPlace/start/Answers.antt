@@ -1,0 +1,9 @@
+use Rattle.book_rules.specs.Words.{cell_place}
+use Rattle.book_rules.proofs.Places.{cell_inside}
+use Rattle.cells.proofs.places.CellPlace.start.Goals as goal
+
+pub returns-clause-room : goal.returns-clause-room
+unfolding cell_place
+returns-clause-room c =
+    let a = c.args in
+    cell_inside a.facilities a.services a.self.f a.self.s c.number.result a.self.slot c.requires.2 c.requires.3 c.number.ensures.1 c.requires.4

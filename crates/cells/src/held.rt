@@ -1,0 +1,101 @@
+// A cell: its words are decoded here, and stores' write_cell encodes them; nothing else knows their order.
+ghost use Rattle.std.specs.Prelude.{◌≡◌, true, ◌&&◌, ◌≤◌, ◌<◌, pos, nat_abs, drop, fold, zip};
+ghost use Rattle.offer_rules.specs.Numbers.{eq_z, word};
+ghost use Rattle.offer_rules.specs.Offer.{proportion, ramp_up, ramp_down, pairs, sum_of};
+ghost use Rattle.book_rules.specs.Words.{cell_stamp};
+ghost use Rattle.book_rules.specs.Refusals.{equal_words};
+ghost use Rattle.cells.specs.Meaning.{held_by};
+
+use layout::{cell, offer};
+use offers::sum_of;
+
+// The words of an offer's pairs.
+pub(crate) fn pairs_of(offer: &[i32; offer::WORDS]) -> &[i32; 20]
+    ensures { result.now ≡ drop 3 offer.now }
+{
+    offer.last_chunk::<20>().unwrap()
+}
+
+// Whether each word is the same, asked of all without a branch.
+fn fold_same(held: &[i32], offer: &[i32]) -> bool
+    ensures { result ≡ fold (λ same p. same && eq_z p.0 p.1) true (zip held.now offer.now) }
+{
+    held.iter()
+        .zip(offer)
+        .fold(true, |same, (x, y)| same & (*x == *y))
+}
+
+fn are_same(held: &[i32; 20], offer: &[i32; 20]) -> bool
+    ensures { result ≡ equal_words held.now offer.now }
+{
+    fold_same(held, offer)
+}
+
+// A cell's words, where they stand in the book.
+#[derive(Clone, Copy)]
+pub struct Cell<'a> {
+    pub words: &'a [i32; cell::WORDS],
+}
+
+// What a held offer has before its pairs, and the minute of its acceptance.
+#[derive(Clone, Copy)]
+pub(crate) struct Terms {
+    pub proportion: i32,
+    pub up: i32,
+    pub down: i32,
+    pub minute: i32,
+}
+
+impl<'a> Cell<'a> {
+    // "0 stamp (0 empty, 1 standing, P + 1 variation)"
+    pub(crate) fn is_stamped(&self, stamp: u32) -> bool
+        requires { stamp < 2147483648 }
+        ensures { result ≡ eq_z (cell_stamp self.now.words.now) (pos stamp) }
+    {
+        self.words[cell::STAMP] == stamp as i32
+    }
+
+    // "On a damaged word 2 the ramps are quotient and remainder rounded toward zero."
+    #[tactic(auto, unfolding(book_rules::specs::Words::cell_held))]
+    pub(crate) fn terms(&self) -> Terms
+        ensures { (result.proportion ≡ proportion (held_by self.now).offer) × (result.up ≡ ramp_up (held_by self.now).offer) × (result.down ≡ ramp_down (held_by self.now).offer) × (result.minute ≡ (held_by self.now).minute) }
+    {
+        let ramps = self.words[cell::RAMPS];
+        Terms {
+            proportion: self.words[cell::PROPORTION],
+            up: ramps / cell::RAMP_UNIT,
+            down: ramps % cell::RAMP_UNIT,
+            minute: self.words[cell::MINUTE],
+        }
+    }
+
+    // The words of its pairs.
+    #[tactic(auto, unfolding(book_rules::specs::Words::cell_held))]
+    pub fn pairs(&self) -> &'a [i32; 20]
+        ensures { result.now ≡ drop 3 (held_by self.now).offer }
+    {
+        let words = self.words;
+        words.last_chunk::<20>().unwrap()
+    }
+
+    // "its ten quantities added"
+    #[tactic(auto, unfolding(offer_rules::specs::Offer::pairs))]
+    pub(crate) fn total(&self) -> i64
+        ensures { (result ≡ sum_of (pairs (held_by self.now).offer)) × (nat_abs result ≤ 21474836480) }
+    {
+        sum_of(self.pairs())
+    }
+
+    // 18: equal to the held one. The minute is not compared.
+    #[tactic(auto, using(units::proofs::Signs::eqb_bits), unfolding(book_rules::specs::Words::cell_held, book_rules::specs::Refusals::equal_words))]
+    pub fn is_same_offer(&self, offer: &[i32; offer::WORDS]) -> bool
+        ensures { result ≡ equal_words (held_by self.now).offer offer.now }
+    {
+        let terms = self.terms();
+        let proportion = terms.proportion == offer[offer::PROPORTION];
+        let up = terms.up == offer[offer::RAMP_UP];
+        let down = terms.down == offer[offer::RAMP_DOWN];
+        let pairs = are_same(self.pairs(), pairs_of(offer));
+        proportion & (up & (down & pairs))
+    }
+}

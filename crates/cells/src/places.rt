@@ -1,0 +1,42 @@
+// Where a cell stands in the book's words.
+ghost use Rattle.std.specs.Prelude.{◌≡◌, ◌+◌, ◌≤◌, ◌<◌};
+ghost use Rattle.book_rules.specs.Words.{book_size, cell_place};
+ghost use Rattle.cells.specs.Meaning.{half_number};
+
+use layout::{cell, facility, head};
+
+// "h 0 standing, 1 variation"
+#[derive(Clone, Copy, Debug, PartialEq, Eq)]
+pub enum Half {
+    Standing = 0,
+    Variation = 1,
+}
+
+impl Half {
+    fn number(self) -> usize
+        ensures { (result ≡ half_number self) × (result < 2) }
+    {
+        self as usize
+    }
+}
+
+#[derive(Clone, Copy, Debug, PartialEq, Eq)]
+pub struct CellPlace {
+    pub f: usize,
+    pub s: usize,
+    pub half: Half,
+    pub slot: usize,
+}
+
+impl CellPlace {
+    // "numbered ((f·S + s)·2 + h)·336 + slot"
+    #[tactic(auto, unfolding(book_rules::specs::Words::cell_place))]
+    pub(crate) fn start(self, facilities: usize, services: usize) -> usize
+        requires { (facilities ≤ 64) × (services ≤ 5) × (self.f < facilities) × (self.s < services) × (self.slot < 336) }
+        ensures place { result ≡ cell_place facilities services self.f self.s (half_number self.half) self.slot }
+        ensures room { result + 24 ≤ book_size facilities services }
+    {
+        let half = (self.f * services + self.s) * 2 + self.half.number();
+        head::WORDS + facility::WORDS * facilities + cell::WORDS * (half * cell::SLOTS + self.slot)
+    }
+}

@@ -1,0 +1,61 @@
+// What an accepted call writes in the book.
+ghost use Rattle.std.specs.Prelude.{◌≡◌, true, false, ◌+◌, ◌≤◌, ◌<◌, pos, length};
+ghost use Rattle.offer_rules.specs.Numbers.{beyond};
+ghost use Rattle.offer_rules.specs.Offer.{accepted_at, most_ramp};
+ghost use Rattle.book_rules.specs.Words.{put, cell_place, packed_ramps, ramps_fit, cell};
+ghost use Rattle.cells.specs.Meaning.{Sized, half_number};
+
+use crate::filing::Filing;
+use crate::held::pairs_of;
+use crate::places::CellPlace;
+use layout::{cell, offer};
+
+// "ramp up times 10,000 plus ramp down"
+fn packed_ramps(up: i32, down: i32) -> i32
+    requires { (beyond (pos 0) most_ramp up ≡ false) × (beyond (pos 0) most_ramp down ≡ false) }
+    ensures { result ≡ packed_ramps up down }
+{
+    up * cell::RAMP_UNIT + down
+}
+
+// "0 stamp (0 empty, 1 standing, P + 1 variation), 1 proportion, .. 4–23 pairs"; "word 3 the minute"
+#[tactic(auto, using(crate::proofs::Putting::cell_written), unfolding(offer_rules::specs::Numbers::any_beyond, book_rules::specs::Words::cell))]
+fn write_cell(words: &mut [i32], filing: Filing<'_>)
+    requires { length words.old ≡ 24 }
+    ensures long { length words.new ≡ 24 }
+    ensures written { words.new ≡ cell filing.entry.stamp (accepted_at filing.entry.minute filing.entry.offer.now) }
+{
+    let offer = filing.offer;
+    words[cell::STAMP] = filing.stamp as i32;
+    words[cell::PROPORTION] = offer[offer::PROPORTION];
+    words[cell::RAMPS] = packed_ramps(offer[offer::RAMP_UP], offer[offer::RAMP_DOWN]);
+    words[cell::MINUTE] = filing.minute as i32;
+    words[cell::PAIRS..cell::WORDS].copy_from_slice(pairs_of(offer));
+}
+
+// "An accepted offer writes one cell's 24 words and no other word."
+#[tactic(auto, unfolding(book_rules::specs::Words::put))]
+pub fn store_offer(
+    book: &mut [i32],
+    facilities: usize,
+    services: usize,
+    place: CellPlace,
+    filing: Filing<'_>,
+)
+    requires { Sized book.old facilities services × (place.f < facilities) × (place.s < services) × (place.slot < 336) }
+    ensures { book.new ≡ put book.old (cell_place facilities services place.f place.s (half_number place.half) place.slot) (cell filing.entry.stamp (accepted_at filing.entry.minute filing.entry.offer.now)) }
+{
+    let at = place.start(facilities, services);
+    let end = at + cell::WORDS;
+    write_cell(&mut book[at..end], filing);
+}
+
+// "Other accepted calls write only the fields they carry."
+#[tactic(auto, unfolding(book_rules::specs::Words::put))]
+pub fn store_words(book: &mut [i32], at: usize, words: &[i32])
+    requires { at + length words.now ≤ length book.old }
+    ensures { book.new ≡ put book.old at words.now }
+{
+    let end = at + words.len();
+    book[at..end].copy_from_slice(words);
+}

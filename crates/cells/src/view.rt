@@ -1,0 +1,90 @@
+// The cells of a book: what is looked up and added.
+ghost use Rattle.std.specs.Prelude.{◌≡◌, ◌≤◌, ◌<◌};
+ghost use Rattle.book_rules.specs.Force.{in_force};
+ghost use Rattle.book_rules.specs.Refusals.{total_reply};
+ghost use Rattle.book_rules.specs.Book.{cell_in, held, book_view};
+ghost use Rattle.cells.specs.Meaning.{Sized};
+
+use crate::answers::Answer;
+use crate::held::Cell;
+use crate::in_force::{InForce, Tally};
+use crate::places::{CellPlace, Half};
+use layout::cell;
+
+// A book's words, and F and S as they hold them.
+#[derive(Clone, Copy)]
+pub struct Cells<'a> {
+    pub words: &'a [i32],
+    pub facilities: usize,
+    pub services: usize,
+    pub ghost sized: { Sized words.now facilities services },
+}
+
+impl<'a> Cells<'a> {
+    ghost use Rattle.cells.specs.Meaning.{half_number, held_in, meaning, answer_of};
+
+    #[tactic(auto, using(std::proofs::lemmas::List::take_rest), unfolding(book_rules::specs::Words::part))]
+    fn cell(&self, place: CellPlace) -> Cell<'a>
+        requires { (place.f < self.now.facilities) × (place.s < self.now.services) × (place.slot < 336) }
+        ensures { result.words.now ≡ cell_in self.now.words.now place.f place.s (half_number place.half) place.slot }
+    {
+        let at = place.start(self.facilities, self.services);
+        Cell {
+            words: self.words[at..].first_chunk().unwrap(),
+        }
+    }
+
+    // The cell, where it has this stamp.
+    #[tactic(auto, unfolding(book_rules::specs::Book::held))]
+    fn held(&self, place: CellPlace, stamp: u32) -> Option<Cell<'a>>
+        requires { (place.f < self.now.facilities) × (place.s < self.now.services) × (place.slot < 336) × (stamp < 2147483648) }
+        ensures { held_in result ≡ held stamp (cell_in self.now.words.now place.f place.s (half_number place.half) place.slot) }
+    {
+        let cell = self.cell(place);
+        cell.is_stamped(stamp).then_some(cell)
+    }
+
+    // "else the standing cell if its stamp is 1, else none"
+    #[tactic(auto, unfolding(book_rules::specs::Book::book_view))]
+    pub fn held_standing(&self, f: usize, s: usize, slot: usize) -> Option<Cell<'a>>
+        requires { (f < self.now.facilities) × (s < self.now.services) × (slot < 336) }
+        ensures { held_in result ≡ (book_view self.now.words.now).standing f s slot }
+    {
+        let half = Half::Standing;
+        self.held(CellPlace { f, s, half, slot }, cell::STANDING_STAMP)
+    }
+
+    // "the variation cell if its stamp is P + 1", else the standing one
+    #[tactic(auto, unfolding(book_rules::specs::Book::book_view, book_rules::specs::Force::first_of, book_rules::specs::Force::in_force))]
+    pub fn in_force(&self, f: usize, s: usize, period: usize) -> Option<InForce<'a>>
+        requires { (f < self.now.facilities) × (s < self.now.services) × (period < 2147483647) }
+        ensures { meaning result ≡ in_force (book_view self.now.words.now) f s period }
+    {
+        let half = Half::Variation;
+        let slot = period % cell::SLOTS;
+        let stamp = (period + 1) as u32;
+        match self.held(CellPlace { f, s, half, slot }, stamp) {
+            Some(cell) => Some(InForce::Variation(cell)),
+            None => self.held_standing(f, s, slot).map(InForce::Standing),
+        }
+    }
+
+    // "word 0 counts facilities with an offer in force, other words zero; sum over them"
+    #[tactic(auto, unfolding(book_rules::specs::Force::count_in_force, book_rules::specs::Force::sum_in_force, book_rules::specs::Force::totalled, book_rules::specs::Refusals::total_reply, book_rules::specs::Book::book_view))]
+    pub fn total(&self, s: usize, period: usize) -> Answer
+        requires { (s < self.now.services) × (period < 2147483647) }
+        ensures { answer_of result ≡ total_reply (book_view self.now.words.now) s period }
+    {
+        let mut t = Tally { count: 0, sum: 0 };
+        for f in 0..self.facilities {
+            t = t.plus(Tally::of(self.in_force(f, s, period)));
+        }
+        let mut words = [0; 24];
+        words[0] = t.count as i32;
+        Answer {
+            number: 0,
+            words,
+            sum: t.sum,
+        }
+    }
+}

@@ -1,0 +1,55 @@
+use Rattle.std.proofs.Common.{rules, arith, ap, sym, ◌≡◌, ◌∙◌, ◌≤◌, drop, length-drop, length-take-le, Err}
+use Rattle.std.proofs.lemmas.Result.{IfOk-weaker}
+use lib.Seq.{take_all}
+use Rattle.offer_rules.specs.Offer.{pairs}
+use Rattle.offers.specs.PairTests.{pairs_of, found_from}
+use Rattle.offers.proofs.Walks.{five_end, five_stop, five_pass, five_suffice, used_counted}
+use Rattle.offers.proofs.filed.Filed.findings.Goals as goal
+use Rattle.offers.proofs.filed.Filed.findings.Goals.{then-five-lt5-via-then-five-lt5, then-five-lt5-via-else-five-lt5+then-do_five_suffice}
+
+pub returns-in_err-five-clause-found : goal.returns-in_err-five-clause-found
+returns-in_err-five-clause-found c =
+    let a = c.args in
+    let p = c.pairs-pairs in
+    let e : c.from_residual.result ≡ Err c.in_err-five.field-0.0 = search rules in
+    e
+    ∙ sym (five_end a.limits.lowest a.limits.highest p.result.now (pairs a.self.now.offer.now) p.ensures.each.0 p.ensures.each.1 c.in_err-five.field-0.0 (rw c.none.ensures at (sym c.walk.ensures.found ∙ c.in_err-five.was)))
+
+pub returns-then-five-lt5-clause-found : goal.returns-then-five-lt5-clause-found
+returns-then-five-lt5-clause-found c =
+    let a = c.args in
+    let p = c.pairs-pairs in
+    let l = pairs a.self.now.offer.now in
+    let five = c.in_ok-five.five in
+    let h = rw c.none.ensures at (sym c.walk.ensures.found ∙ c.in_ok-five.was) in
+    elim c.then-five-lt5.branch [
+      then-five-lt5-via-then-five-lt5 w ↦
+        sym (five_stop a.limits.lowest a.limits.highest p.result.now l p.ensures.each.0 p.ensures.each.1 five h w.if-five-lt5.true)
+    | then-five-lt5-via-else-five-lt5+then-do_five_suffice w ↦
+        sym (five_pass a.limits.lowest a.limits.highest p.result.now l p.ensures.each.0 p.ensures.each.1 five h w.if-five-lt5.false
+        ∙ five_suffice a.limits.lowest a.limits.highest p.result.now l p.ensures.each.0 p.ensures.each.1 a.self.now.service p.ensures.unused five (sym w.do_five_suffice.ensures ∙ w.if-do_five_suffice.true))
+    ]
+
+pub returns-clause-found : goal.returns-clause-found
+returns-clause-found c =
+    let a = c.args in
+    let p = c.pairs-pairs in
+    let five = c.in_ok-five.five in
+    let h = rw c.none.ensures at (sym c.walk.ensures.found ∙ c.in_ok-five.was) in
+    c.walk-2.ensures.found
+    ∙ ap (λ ws. found_from a.limits.lowest a.limits.highest five (pairs_of ws)) (take_all 5 (drop 5 p.result.now) (omega (arith, length-drop 5 p.result.now)))
+    ∙ sym (five_pass a.limits.lowest a.limits.highest p.result.now (pairs a.self.now.offer.now) p.ensures.each.0 p.ensures.each.1 five h c.if-five-lt5.false)
+
+pub returns-clause-within : goal.returns-clause-within
+returns-clause-within c =
+    let a = c.args in
+    let p = c.pairs-pairs in
+    let five = c.in_ok-five.five in
+    let n = ap (λ f. f.filled) c.none.ensures in
+    let within = c.in_ok-five.ensures.within in
+    let m : five.filled ≤ 5 = omega (arith, within.0, length-take-le 5 p.result.now) in
+    let found =
+        c.walk-2.ensures.found
+        ∙ ap (λ ws. found_from a.limits.lowest a.limits.highest five (pairs_of ws)) (take_all 5 (drop 5 p.result.now) (omega (arith, length-drop 5 p.result.now)))
+    in
+    used_counted a.limits.lowest a.limits.highest p.result.now (pairs a.self.now.offer.now) p.ensures.each.0 p.ensures.each.1 a.self.now.service p.ensures.unused five m c.walk-2.result found (IfOk-weaker c.walk-2.result _ _ (λ f h. omega (arith, h.0, length-drop 5 p.result.now)) c.walk-2.ensures.within)

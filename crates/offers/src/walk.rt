@@ -1,0 +1,78 @@
+// What a walk through an offer's pairs finds up to the first blank.
+ghost use Rattle.std.specs.Prelude.{◌≡◌, ◌+◌, ◌*◌, ◌≤◌, nat_abs, length, IfOk};
+ghost use Rattle.offers.specs.PairTests.{pairs_of, still_rises, with_filled, none_yet, found_from};
+
+use crate::limits::PriceLimits;
+use crate::sum::Sum;
+use layout::Refusal;
+use units::{Pair, Price};
+
+// 13 "prices of non-blank pairs not strictly rising": `last` is the price before, if there is one.
+#[tactic(auto, unfolding(crate::specs::PairTests::still_rises))]
+fn still_rises(rises: bool, last: Option<Price>, price: Price) -> bool
+    ensures { result ≡ still_rises rises last price }
+{
+    rises & last.is_none_or(|last| last < price)
+}
+
+// What the pairs before the first blank, or up to some place, have shown: `filled` counts them, and `last` is the price of the last.
+#[derive(Clone, Copy)]
+pub struct Findings {
+    pub rises: bool,
+    pub last: Option<Price>,
+    pub total: Sum,
+    pub filled: usize,
+}
+
+impl Findings {
+    pub fn none() -> Findings
+        ensures { result ≡ none_yet }
+    {
+        Findings {
+            rises: true,
+            last: None,
+            total: Sum(0),
+            filled: 0,
+        }
+    }
+
+    // One pair more.
+    #[tactic(auto, unfolding(crate::specs::PairTests::with_filled))]
+    fn with(self, pair: Pair) -> Findings
+        requires { (nat_abs self.total.0 ≤ 4611686018427387904) × (self.filled ≤ 10) }
+        ensures { result ≡ with_filled self pair.price pair.quantity }
+    {
+        Findings {
+            rises: still_rises(self.rises, self.last, pair.price),
+            last: Some(pair.price),
+            total: self.total + pair.quantity,
+            filled: self.filled + 1,
+        }
+    }
+}
+
+// Some pairs, after findings `start` of those before them. The walk ends at the first that is blank, and at the first that 11 refuses: no number
+// below 11 is left to be drawn from pairs.
+pub fn walk(
+    limits: PriceLimits,
+    start: Findings,
+    pairs: &[[i32; 2]],
+) -> Result<Findings, Refusal>
+    requires counted { start.filled + length pairs.now ≤ 10 }
+    requires sized { nat_abs start.total.0 ≤ start.filled * 2147483648 }
+    ensures found { result ≡ found_from limits.lowest limits.highest start (pairs_of pairs.now) }
+    ensures within { IfOk result (λ f. (f.filled ≤ start.filled + length pairs.now) × (nat_abs f.total.0 ≤ f.filled * 2147483648)) }
+{
+    let mut f = start;
+    for words in pairs {
+        let pair = Pair::from(*words);
+        if limits.is_out_of_range(pair) {
+            return Err(Refusal::OutOfRange);
+        }
+        if pair.is_blank() {
+            return Ok(f);
+        }
+        f = f.with(pair);
+    }
+    Ok(f)
+}
