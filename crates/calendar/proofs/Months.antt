@@ -5,26 +5,19 @@ use mathlib.Core.Bool.{Bool, true, false, cond, ◌&&◌, ◌||◌}
 use Prim.Native.Nat.{ℕ, suc, ◌+◌, ◌*◌, ◌-◌, ◌/◌, ◌%◌, ◌<◌, ◌≤◌}
 use native.Mathlib.Omega.{arith}
 use lib.Dec.{eqb, leb, ltb}
-use lib.IntN.{ℤ}
-use borrow.Author.Tests.{eqb-true, ne_eqb, leb-true, le-leb, ltb-true}
-use Rattle.offer_rules.specs.Numbers.{to_nat, between}
+use borrow.Author.Tests.{eqb-true, ne_eqb, leb-true, ltb-true}
 use Rattle.offer_rules.proofs.Drawn.{and_left, and_right}
 use Rattle.calendar_rules.specs.Calendar.{year_days, month_days, days_before, month_at}
 use Rattle.calendar.specs.Evened.{evenly, evened}
 use Rattle.calendar_rules.proofs.Everywhere.{passes_below, everywhere, agree}
 use Rattle.calendar_rules.proofs.Begun.{later_begins_later, none_other}
-use Rattle.calendar_rules.proofs.Lengths.{months_make_the_year, months_rise, in_each_month, at_least_28}
+use Rattle.calendar_rules.proofs.Lengths.{months_make_the_year, months_rise, in_each_month}
 
-pub year_at_most : (leap : Bool) → year_days leap ≤ 366
+year_at_most : (leap : Bool) → year_days leap ≤ 366
 year_at_most true = omega arith
 year_at_most false = omega arith
 
 -- ---- a month's days
-
-pub february_days : (leap : Bool) (m k : ℕ) → m ≡ 2 → k ≡ cond leap 1 0 → 28 + k ≡ month_days leap m
-unfolding month_days
-february_days true m k two one = rw (two, one)
-february_days false m k two none = rw (two, none)
 
 turns_agree : (leap : Bool) → passes_below (λ i. eqb (i + 1) 2 || eqb (30 + (i + 1 + (i + 1) / 8) % 2) (month_days leap (i + 1))) 12 ≡ true
 unfolding passes_below month_days
@@ -35,9 +28,6 @@ pub days_in_turns : (leap : Bool) (m : ℕ) → 1 ≤ m → m ≤ 12 → m ≢ 2
 days_in_turns leap m l h n2 =
     eqb-true (30 + (m + m / 8) % 2) (month_days leap m)
     (rw (ne_eqb m 2 n2) at (in_each_month (λ k. eqb k 2 || eqb (30 + (k + k / 8) % 2) (month_days leap k)) (turns_agree leap) m l h))
-
-pub to_28 : (leap : Bool) (m : ℕ) (z : ℤ) → 1 ≤ m → m ≤ 12 → to_nat z ≤ 28 → between 1 (month_days leap m) (to_nat z) ≡ between 1 28 (to_nat z)
-to_28 leap m z l h k = let n = at_least_28 leap m l h in rw (le-leb (to_nat z) 28 k, le-leb (to_nat z) (month_days leap m) (omega arith))
 
 -- ---- the days before a month
 

@@ -56,7 +56,7 @@ struct Month {
 
 impl Month {
     // But for February, months of 31 and 30 days in turn, and again from August on.
-    #[tactic(auto, using(crate::proofs::Months::february_days, crate::proofs::Months::days_in_turns))]
+    #[tactic(auto, using(crate::proofs::Months::days_in_turns), unfolding(calendar_rules::specs::Calendar::month_days))]
     fn days(self) -> u64
         ensures { (result ≡ month_days self.leap self.number) × (result ≤ 31) }
     {
@@ -98,7 +98,6 @@ impl Day {
 // ---- a date and period to P
 
 // A word from lo to hi, as a count.
-#[tactic(auto, using(crate::proofs::Words::within_counts, crate::proofs::Words::beyond_counts))]
 fn counted(lo: i32, hi: i32, word: i32) -> Result<u64, Refusal>
     requires { 1 ≤ to_nat lo }
     ensures { OrDate (between (to_nat lo) (to_nat hi) (to_nat word)) (λ n. (n ≡ to_nat word) × (to_nat lo ≤ n) × (n ≤ to_nat hi)) result }
@@ -136,7 +135,7 @@ impl Year {
 
 impl Month {
     // No month has fewer than 28 days.
-    #[tactic(auto, using(crate::proofs::Months::to_28))]
+    #[tactic(auto, using(calendar_rules::proofs::Lengths::at_least_28))]
     fn day(self, day: i32) -> Result<u64, Refusal>
         ensures { OrDate (between 1 (month_days self.leap self.number) (to_nat day)) (λ d. (d ≡ to_nat day) × (1 ≤ d)) result }
     {
@@ -149,7 +148,7 @@ impl Month {
 
 impl Day {
     // 21 where "the date doesn't exist, the year is outside 2024–2099"
-    #[tactic(auto, using(crate::proofs::Dates::exists_by_parts, crate::proofs::Dates::none_without_year, crate::proofs::Dates::none_without_month, crate::proofs::Dates::none_without_day, crate::proofs::Dates::number_by_parts, crate::proofs::Dates::in_calendar_by_parts))]
+    #[tactic(auto, unfolding(calendar_rules::specs::Calendar::date_exists, calendar_rules::specs::Calendar::day_number), using(calendar_rules::proofs::RoundTrips::day_in_calendar))]
     fn of(year: i32, month: i32, day: i32) -> Result<Day, Refusal>
         ensures { OrDate (date_exists (to_nat year) (to_nat month) (to_nat day)) (λ d. d.number ≡ day_number (to_nat year) (to_nat month) (to_nat day)) result }
     {
