@@ -71,6 +71,7 @@ pub fn whole_text(out: &mut Printed, answer: Answer)
 }
 
 // Reads until the bytes are full, the input ends or a read fails, and returns how many were put at their start, which std's `read_exact` doesn't say.
+#[tactic(auto, using(crate::proofs::Taking::taken_on))]
 pub fn read_full<R: Read>(input: &mut R, bytes: &mut [u8]) -> usize
     ensures prefix_len { IsPrefixLen result bytes.new }
     ensures taken { Consumes (R.remaining input.old) (R.remaining input.new) (take result bytes.new) }
