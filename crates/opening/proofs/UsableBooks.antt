@@ -1,7 +1,7 @@
 -- What follows for the code where sizes, or a book's words, pass their test.
 use mathlib.Core.Path.{◌≡◌, refl}
 use mathlib.Core.Logic.{◌⊎◌, inl, inr, ⊎_elim}
-use mathlib.Core.Bool.{Bool, true, false, not, ◌&&◌, ◌||◌, false≢true}
+use mathlib.Core.Bool.{true, false, not, ◌&&◌, ◌||◌, false≢true}
 use mathlib.Core.List.{List}
 use Prim.Native.Nat.{◌≤◌}
 use native.Mathlib.Omega.{arith}
@@ -9,17 +9,17 @@ use lib.Dec.{leb, eqb}
 use lib.IntN.{ℤ, pos, negsuc}
 use lib.ListN.{length}
 use borrow.Author.Tests.{leb-true, eqb-true, not-true}
+use Rattle.std.proofs.lemmas.Bool.{or_cases}
 use Rattle.offer_rules.specs.Numbers.{eq_z, to_nat, word, beyond}
 use Rattle.offer_rules.proofs.Drawn.{and_left, and_right}
 use Rattle.offer_rules.proofs.Ranges.{count_within}
 use Rattle.book_rules.specs.Record.{sizes_ok}
 use Rattle.book_rules.specs.Book.{facilities_in, services_in}
-use Rattle.book_rules.specs.Words.{book_size, book_mark, book_version, clock_place, is_book, opening_number}
+use Rattle.book_rules.specs.Words.{book_size, book_mark, book_version, clock_place, is_book}
 use Rattle.book_rules.proofs.OneCall.{room_in}
-use Rattle.book_rules.proofs.Opening.{opening_passed}
 
 -- Sizes that are not refused are counts.
-pub record Sizes (F S : ℤ) : Type 0 where
+pub record Counted (F S : ℤ) : Type 0 where
   pub F-is : F ≡ pos (to_nat F)
   pub S-is : S ≡ pos (to_nat S)
   pub least_f : 1 ≤ to_nat F
@@ -42,17 +42,13 @@ pub record BookWords (w : List ℤ) : Type 0 where
   pub most_s : services_in w ≤ 5
   pub most_clock : to_nat (word w clock_place) ≤ 1000000000
 
-or-true : (a b : Bool) → a || b ≡ true → (a ≡ true) ⊎ (b ≡ true)
-or-true true b e = inl refl
-or-true false b e = inr e
-
-pub sized : (F S : ℤ) → sizes_ok F S ≡ true → Sizes F S
+pub sized : (F S : ℤ) → sizes_ok F S ≡ true → Counted F S
 unfolding sizes_ok
 sized (negsuc F) S e = absurd (false≢true e)
 sized (pos F) (negsuc S) e = absurd (false≢true (and_right (leb 1 F && leb F 64) false e))
 sized (pos F) (pos S) e =
     let f : leb 1 F && leb F 64 ≡ true = and_left (leb 1 F && leb F 64) (eqb S 1 || eqb S 5) e in
-    let s : (eqb S 1 ≡ true) ⊎ (eqb S 5 ≡ true) = or-true (eqb S 1) (eqb S 5) (and_right (leb 1 F && leb F 64) (eqb S 1 || eqb S 5) e) in
+    let s : (eqb S 1 ≡ true) ⊎ (eqb S 5 ≡ true) = or_cases (eqb S 1) (eqb S 5) (and_right (leb 1 F && leb F 64) (eqb S 1 || eqb S 5) e) in
     let k : (S ≡ 1) ⊎ (S ≡ 5) = ⊎_elim (λ x. inl (eqb-true S 1 x)) (λ x. inr (eqb-true S 5 x)) s in
     record {
       F-is = refl;
@@ -73,7 +69,7 @@ usable w e =
     let timely = not (beyond (pos 0) (pos 1000000000) (word w clock_place)) in
     let front : head && sizes ≡ true = and_left (head && sizes) (room && timely) e in
     let rest : room && timely ≡ true = and_right (head && sizes) (room && timely) e in
-    let s : Sizes (word w 2) (word w 3) = sized (word w 2) (word w 3) (and_right head sizes front) in
+    let s : Counted (word w 2) (word w 3) = sized (word w 2) (word w 3) (and_right head sizes front) in
     let t = count_within 1000000000 (word w clock_place) (not-true (beyond (pos 0) (pos 1000000000) (word w clock_place)) (and_right room timely rest)) in
     record {
       head_fits = leb-true 64 (length w) (and_left (leb 64 (length w)) (eq_z (word w 0) book_mark && eq_z (word w 1) book_version) (and_left head sizes front));
@@ -88,7 +84,3 @@ usable w e =
       most_s = s.most_s;
       most_clock = t.1;
     }
-
--- An opening that is not refused has sizes, and words enough.
-pub opening_fits : (w : List ℤ) (F S : ℤ) (limits : List ℤ) → opening_number w F S limits ≡ 0 → Sizes F S × (book_size (to_nat F) (to_nat S) ≤ length w)
-opening_fits w F S limits e = let fit = opening_passed w F S limits e in (sized F S fit.0, fit.1)

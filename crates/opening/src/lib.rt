@@ -2,49 +2,70 @@
 // Head, facilities and cells are lent on as parts of the book, and each is written from its start to its end.
 #![tactic(auto)]
 
-ghost use Rattle.std.specs.Prelude.{◌≡◌, ◌&&◌, ◌+◌, ◌*◌, ◌≤◌, leb, length, drop};
-ghost use Rattle.offer_rules.specs.Numbers.{to_nat, zeros};
+ghost use Rattle.std.specs.Prelude.{◌≡◌, ◌&&◌, ◌+◌, ◌*◌, ◌≤◌, leb, length, drop, is_some, IfSome, IfOk, OnErr};
+ghost use Rattle.offer_rules.specs.Numbers.{to_nat};
 ghost use Rattle.book_rules.specs.Record.{sizes_ok};
 ghost use Rattle.book_rules.specs.Words.{book_size, is_book, limits_ok, opening_number};
 ghost use Rattle.book_rules.specs.Words.{empty_facility, empty_facilities, opening_head, opened, opening_words};
+ghost use Rattle.layout.specs.Refusal.{drawn};
 
-use layout::{cell, facility, head, refusal, time};
+use layout::{Refusal, cell, drawn, facility, head, refuse_if, time};
 use record::is_sized;
-use units::{any_beyond, copy_words, first, is_beyond, nat};
+use units::{any_beyond, is_beyond, nat};
 
 // "a limit beyond ±10,000,000"
 const LOWEST_LIMIT: i32 = -10000000;
 
 const HIGHEST_LIMIT: i32 = 10000000;
 
-// "It needs N = 64 + 32·F + 16,128·F·S words."
-fn book_size(facilities: usize, services: usize) -> usize
-    requires { (facilities ≤ 64) × (services ≤ 5) }
-    ensures { (result ≡ book_size facilities services) × (result ≤ 5163200) }
-{
-    head::WORDS + facility::WORDS * facilities + cell::SERVICE_WORDS * (facilities * services)
+// F and S of a book, at most 64 and 5.
+#[derive(Clone, Copy)]
+struct Sizes {
+    facilities: usize,
+    services: usize,
+    ghost few_facilities: { facilities ≤ 64 },
+    ghost few_services: { services ≤ 5 },
+}
+
+impl Sizes {
+    // "It needs N = 64 + 32·F + 16,128·F·S words."
+    #[tactic(auto, unfolding(book_rules::specs::Words::book_size))]
+    fn book_size(self) -> usize
+        ensures value { result ≡ book_size self.facilities self.services }
+        ensures most { result ≤ 5163200 }
+    {
+        head::WORDS
+            + facility::WORDS * self.facilities
+            + cell::SERVICE_WORDS * (self.facilities * self.services)
+    }
+
+    // "F not 1 to 64, S not 1 or 5, fewer than N words"
+    fn that_fit(words: usize, facilities: i32, services: i32) -> Option<Sizes>
+        ensures fits { is_some result ≡ (sizes_ok facilities services && leb (book_size (to_nat facilities) (to_nat services)) words) }
+        ensures sizes { IfSome result (λ s. (s.facilities ≡ to_nat facilities) × (s.services ≡ to_nat services)) }
+    {
+        if !is_sized(facilities, services) {
+            return None;
+        }
+        let sizes = Sizes {
+            facilities: nat(facilities) as usize,
+            services: nat(services) as usize,
+        };
+        (sizes.book_size() <= words).then_some(sizes)
+    }
 }
 
 // 20 "a limit beyond ±10,000,000, or not lowest ≤ 0 ≤ highest; 0 ≤ highest for services 1–4"
 pub fn limits_ok(limits: [i32; 6]) -> bool
     ensures { result ≡ limits_ok limits }
 {
-    let beyond = any_beyond(&limits, 0, 6, LOWEST_LIMIT, HIGHEST_LIMIT);
-    let negative = any_beyond(&limits, 1, 5, 0, HIGHEST_LIMIT);
+    let beyond = any_beyond(&limits, LOWEST_LIMIT, HIGHEST_LIMIT);
+    let negative = any_beyond(&limits[1..], 0, HIGHEST_LIMIT);
     !beyond & ((limits[0] <= 0) & !negative)
 }
 
-// "F not 1 to 64, S not 1 or 5, fewer than N words"
-fn sizes_fit(words: usize, facilities: i32, services: i32) -> bool
-    ensures { result ≡ (sizes_ok facilities services && leb (book_size (to_nat facilities) (to_nat services)) words) }
-{
-    if !is_sized(facilities, services) {
-        return false;
-    }
-    book_size(nat(facilities) as usize, nat(services) as usize) <= words
-}
-
 // 1 "fewer than 64 words, mark or version wrong, F not 1 to 64, S not 1 or 5, fewer than N words, or clock outside 0 to 1,000,000,000"
+#[tactic(auto, unfolding(book_rules::specs::Words::is_book))]
 pub fn is_book(book: &[i32]) -> bool
     ensures { result ≡ is_book book.now }
 {
@@ -53,38 +74,36 @@ pub fn is_book(book: &[i32]) -> bool
     }
     let headed = (book[head::MARK] == head::BOOK_MARK)
         & (book[head::VERSION] == head::BOOK_VERSION);
-    let fits = sizes_fit(book.len(), book[head::FACILITIES], book[head::SERVICES]);
-    (headed & fits) & !is_beyond(0, time::LAST_MINUTE, book[head::CLOCK])
+    let sizes = Sizes::that_fit(book.len(), book[head::FACILITIES], book[head::SERVICES]);
+    (headed & sizes.is_some()) & !is_beyond(0, time::LAST_MINUTE, book[head::CLOCK])
 }
 
-// 20 "F, S wrong, words too few", or the limits; else 0.
-fn opening_number(book: &[i32], facilities: i32, services: i32, limits: [i32; 6]) -> u8
-    ensures { result ≡ opening_number book.now facilities services limits }
+// 20 "F, S wrong, words too few", or the limits; else the sizes.
+#[tactic(auto, unfolding(book_rules::specs::Words::opening_number, book_rules::specs::Words::opening_words, offer_rules::specs::Numbers::draw))]
+fn opening_sizes(
+    book: &[i32],
+    facilities: i32,
+    services: i32,
+    limits: [i32; 6],
+) -> Result<Sizes, Refusal>
+    ensures number { drawn result ≡ opening_number book.now facilities services limits }
+    ensures refused { OnErr result (opening_words book.now facilities services limits ≡ book.now) }
+    ensures sizes { IfOk result (λ s. (s.facilities ≡ to_nat facilities) × (s.services ≡ to_nat services) × (book_size s.facilities s.services ≤ length book.now)) }
 {
-    let fits = sizes_fit(book.len(), facilities, services);
-    first(!(fits & limits_ok(limits)), refusal::OPENING_REFUSED, 0)
-}
-
-// A loop that does nothing else, which compiles to memset: a book's cells are up to 5,160,960 words.
-fn clear(words: &mut [i32])
-    ensures { words.new ≡ zeros (length words.old) }
-{
-    let n = words.len();
-    for i in 0..n {
-        words[i] = 0;
-    }
+    let sizes = Sizes::that_fit(book.len(), facilities, services).ok_or(Refusal::Opening)?;
+    refuse_if(!limits_ok(limits), Refusal::Opening)?;
+    Ok(sizes)
 }
 
 // "0 the mark 0x534F42; 1 version ..; 2 F; 3 S; 4 clock; 5–10 first and last of notices 3, 4, 5", and the limits
-fn write_head(head: &mut [i32], facilities: usize, services: usize, limits: [i32; 6])
-    requires { (length head.old ≡ 64) × (facilities ≤ 64) × (services ≤ 5) }
-    ensures { head.new ≡ opening_head facilities services limits }
+fn write_head(head: &mut [i32; head::WORDS], sizes: Sizes, limits: [i32; 6])
+    ensures { head.new ≡ opening_head sizes.facilities sizes.services limits }
 {
     let leading = [
         head::BOOK_MARK,
         head::BOOK_VERSION,
-        facilities as i32,
-        services as i32,
+        sizes.facilities as i32,
+        sizes.services as i32,
         0,
         1,
         0,
@@ -93,59 +112,59 @@ fn write_head(head: &mut [i32], facilities: usize, services: usize, limits: [i32
         1,
         0,
     ];
-    copy_words(&mut head[0..head::LIMITS], &leading);
-    copy_words(&mut head[head::LIMITS..head::LIMITS_END], &limits);
-    clear(&mut head[head::LIMITS_END..head::WORDS]);
+    head[..head::LIMITS].copy_from_slice(&leading);
+    head[head::LIMITS..head::LIMITS_END].copy_from_slice(&limits);
+    head[head::LIMITS_END..].fill(0);
 }
 
 // A facility of kind 0, whose outage window is 1 to 0.
-fn write_facility(words: &mut [i32])
-    requires { length words.old ≡ 32 }
-    ensures { words.new ≡ empty_facility }
+#[tactic(auto, unfolding(book_rules::specs::Words::empty_facility))]
+fn empty_facility() -> [i32; facility::WORDS]
+    ensures { result ≡ empty_facility }
 {
-    clear(words);
+    let mut words = [0; facility::WORDS];
     words[facility::OUTAGE] = 1;
+    words
 }
 
-fn write_facilities(words: &mut [i32], facilities: usize)
-    requires { (length words.old ≡ 32 * facilities) × (facilities ≤ 64) }
-    ensures { words.new ≡ empty_facilities facilities }
+// By places: of chunks that are written std's contracts don't say what their slice ends as.
+fn write_facilities(words: &mut [i32], sizes: Sizes)
+    requires { length words.old ≡ 32 * sizes.facilities }
+    ensures { words.new ≡ empty_facilities sizes.facilities }
 {
-    for f in 0..facilities {
-        let from = facility::WORDS * f;
-        let to = from + facility::WORDS;
-        write_facility(&mut words[from..to]);
+    for f in 0..sizes.facilities {
+        let at = facility::WORDS * f;
+        words[at..at + facility::WORDS].copy_from_slice(&empty_facility());
     }
 }
 
 // "Opening writes words 0 to N − 1: mark, version, F and S as above, clock 0, all windows 1 to 0 (empty), given limits, else zero."
-fn write_words(book: &mut [i32], facilities: usize, services: usize, limits: [i32; 6])
-    requires { (facilities ≤ 64) × (services ≤ 5) × (book_size facilities services ≤ length book.old) }
-    ensures { book.new ≡ opened facilities services limits (drop (book_size facilities services) book.old) }
+#[tactic(auto, unfolding(book_rules::specs::Words::book_size))]
+fn write_words(book: &mut [i32], sizes: Sizes, limits: [i32; 6])
+    requires { book_size sizes.facilities sizes.services ≤ length book.old }
+    ensures { book.new ≡ opened sizes.facilities sizes.services limits (drop (book_size sizes.facilities sizes.services) book.old) }
 {
-    let cells = head::WORDS + facility::WORDS * facilities;
-    let end = book_size(facilities, services);
-    write_head(&mut book[0..head::WORDS], facilities, services, limits);
-    write_facilities(&mut book[head::WORDS..cells], facilities);
-    clear(&mut book[cells..end]);
+    let cells = head::WORDS + facility::WORDS * sizes.facilities;
+    let end = sizes.book_size();
+    write_head(book.first_chunk_mut().unwrap(), sizes, limits);
+    write_facilities(&mut book[head::WORDS..cells], sizes);
+    book[cells..end].fill(0);
 }
 
-// Opens the book and returns 0, or returns 20 and writes nothing.
-pub fn open(book: &mut [i32], facilities: i32, services: i32, limits: [i32; 6]) -> u32
-    ensures number { result ≡ opening_number book.old facilities services limits }
+// Opens the book, or refuses and writes nothing.
+#[tactic(auto, unfolding(book_rules::specs::Words::opening_words))]
+pub fn open(
+    book: &mut [i32],
+    facilities: i32,
+    services: i32,
+    limits: [i32; 6],
+) -> Result<(), Refusal>
+    ensures number { drawn result ≡ opening_number book.old facilities services limits }
     ensures words { book.new ≡ opening_words book.old facilities services limits }
 {
-    let number = opening_number(book, facilities, services, limits);
-    if 0 < number {
-        return number as u32;
-    }
-    write_words(
-        book,
-        nat(facilities) as usize,
-        nat(services) as usize,
-        limits,
-    );
-    0
+    let sizes = opening_sizes(book, facilities, services, limits)?;
+    write_words(book, sizes, limits);
+    Ok(())
 }
 
 // The opening for C, under C's calling convention.
@@ -153,5 +172,5 @@ pub fn bilzhaan_open(words: &mut [i32], facilities: i32, services: i32, limits: 
     ensures number { result ≡ opening_number words.old facilities services limits.now }
     ensures words { words.new ≡ opening_words words.old facilities services limits.now }
 {
-    open(words, facilities, services, *limits)
+    u32::from(drawn(open(words, facilities, services, *limits)))
 }

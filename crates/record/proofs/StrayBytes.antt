@@ -1,17 +1,18 @@
 -- A record's stray bytes are those that are not zero in the gaps between the bytes that its call uses.
 -- Whether gaps are those of a call is computed: both sides become the same tests, byte by byte.
-use mathlib.Core.Path.{◌≡◌, refl, sym, ◌∙◌}
+use mathlib.Core.Path.{◌≡◌, refl, sym, ap, ◌∙◌}
 use mathlib.Core.Bool.{Bool, false, not, ◌&&◌, ◌||◌, or-false, or_assoc, and_comm}
 use mathlib.Core.List.{List, [], ◌∷◌}
 use Prim.Native.Nat.{ℕ, zero, suc, ◌+◌, ◌-◌, ◌<◌, ◌≤◌}
 use native.Mathlib.Omega.{arith}
 use lib.Dec.{eqb}
-use lib.ListN.{length, get_or, drop, drop_of_length-le}
+use lib.ListN.{length, get_or, take, drop, drop_of_length-le}
 use lib.Seq.{drop-cons}
+use borrow.Rule.Slice.PartMut.{mid_of}
 use Rattle.book_rules.specs.Record.{byte, any_stray}
 use Rattle.record.specs.Gaps.{any_set}
 
--- ---- a loop over the bytes from i to before z
+-- ---- a loop over a gap's bytes, at byte i of z
 
 pub set_more : (b : List ℕ) (i z : ℕ) (seen : Bool) → i < z
     → ((seen || not (eqb (get_or b i 0) 0)) || any_set b (i + 1) (z - (i + 1))) ≡ (seen || any_set b i (z - i))
@@ -24,6 +25,30 @@ set_more b i z seen h =
 pub set_end : (b : List ℕ) (i z : ℕ) (seen : Bool) → z ≤ i → (seen || any_set b i (z - i)) ≡ seen
 unfolding any_set
 set_end b i z seen h = let n : z - i ≡ 0 = omega arith in rw n (or-false seen)
+
+-- ---- a gap lent as a part of the record
+
+first_left : (x : ℕ) (b : List ℕ) (i n : ℕ) → any_set (x ∷ b) (suc i) n ≡ any_set b i n
+unfolding any_set
+first_left x b i zero = refl
+first_left x b i (suc n) = ap (λ (t : Bool). not (eqb (get_or b i 0) 0) || t) (first_left x b (suc i) n)
+
+-- past the end no byte is set
+none_set : (i n : ℕ) → any_set [] i n ≡ false
+unfolding any_set
+none_set i zero = refl
+none_set i (suc n) = none_set (suc i) n
+
+pub as_lent : (b : List ℕ) (i n : ℕ) → any_set (mid_of i n b) 0 (length (mid_of i n b)) ≡ any_set b i n
+unfolding any_set
+as_lent [] i zero = refl
+as_lent [] zero (suc n) = sym (none_set 1 n)
+as_lent [] (suc i) (suc n) = sym (none_set (suc (suc i)) n)
+as_lent (x ∷ b) zero zero = refl
+as_lent (x ∷ b) zero (suc n) =
+    let l = take n b in
+    ap (λ (t : Bool). not (eqb x 0) || t) (first_left x l 0 (length l) ∙ as_lent b 0 n ∙ sym (first_left x b 0 n))
+as_lent (x ∷ b) (suc i) n = as_lent b i n ∙ sym (first_left x b i n)
 
 -- ---- gaps
 

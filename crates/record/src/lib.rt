@@ -2,155 +2,74 @@
 // The gateway's C program calls bilzhaan_record_test.
 #![tactic(auto)]
 
-ghost use Rattle.std.specs.Prelude.{◌≡◌, ℕ, ◌+◌, ◌*◌, ◌-◌, ◌/◌, ◌%◌, ◌≤◌, ◌<◌, pos, length, drop, ◌&&◌, ◌||◌};
-ghost use Rattle.book_rules.specs.Record.{byte, signed, word_at, words_at, offer_in, capability_in};
+ghost use Rattle.std.specs.Prelude.{◌≡◌, ℕ, ◌+◌, ◌*◌, ◌-◌, ◌≤◌, length, drop, ◌&&◌, ◌||◌, IfOk};
+ghost use Rattle.book_rules.specs.Record.{word_at, words_at, offer_in, capability_in};
 ghost use Rattle.book_rules.specs.Record.{used, is_record, outside, any_stray, has_stray};
 ghost use Rattle.book_rules.specs.Record.{record_number, sizes_ok, record_test};
+ghost use Rattle.layout.specs.Refusal.{drawn};
 ghost use Rattle.record.specs.Gaps.{any_set};
 
 use layout::fields::{
     A, B, BYTES, CALL, FACILITY, PROPORTION, RAMP_DOWN, RAMP_UP, REASON, SERVICE, W0, ZERO,
 };
-use layout::{facility, head, offer, refusal};
-use units::{first, nat};
+use layout::{Refusal, drawn, facility, head, offer, refuse_if};
+use std::array;
+use units::nat;
+
+// A record's 112 bytes.
+pub type Record = [u8; BYTES];
 
 // The words past an offer's five pairs and past a capability's W16.
 const W10: usize = W0 + 4 * 10;
 
 const W17: usize = W0 + 4 * facility::CAPABILITY;
 
-// Two bytes, most significant first.
-fn join_two(a: u8, b: u8) -> u32
-    ensures { (result ≡ a * 256 + b) × (result < 65536) }
-{
-    a as u32 * 256 + b as u32
-}
-
-// Four bytes, most significant first.
-fn join_four(a: u8, b: u8, c: u8, d: u8) -> u32
-    ensures { result ≡ ((a * 256 + b) * 256 + c) * 256 + d }
-{
-    ((a as u32 * 256 + b as u32) * 256 + c as u32) * 256 + d as u32
-}
-
-// Eight bytes, as two words of four.
-fn join_eight(first: u32, second: u32) -> u64
-    ensures { (result / 4294967296 ≡ first) × (result % 4294967296 ≡ second) }
-{
-    first as u64 * 4294967296 + second as u64
-}
-
-// 32 bits in two's complement.
-fn signed_from(bits: u32) -> i32
-    ensures { result ≡ signed bits }
-{
-    if bits < 0x80000000 {
-        bits as i32
-    } else {
-        !((0xffffffff - bits) as i32)
-    }
-}
-
-// The bits of a word.
-fn four_at(bytes: &[u8], at: usize) -> u32
-    requires { at + 4 ≤ length bytes.now }
-    ensures { signed result ≡ word_at bytes.now at }
-{
-    join_four(bytes[at], bytes[at + 1], bytes[at + 2], bytes[at + 3])
-}
+const PAIR_WORDS: usize = 2 * offer::PAIR_COUNT;
 
 // "Words are signed 32-bit, most significant byte first."
 pub fn word_at(bytes: &[u8], at: usize) -> i32
     requires { at + 4 ≤ length bytes.now }
     ensures { result ≡ word_at bytes.now at }
 {
-    signed_from(four_at(bytes, at))
+    i32::from_be_bytes([bytes[at], bytes[at + 1], bytes[at + 2], bytes[at + 3]])
 }
 
-// Two words, as the halves of eight bytes.
-fn two_words_at(bytes: &[u8], at: usize) -> u64
-    requires { at + 8 ≤ length bytes.now }
-    ensures { (signed (result / 4294967296) ≡ word_at bytes.now at) × (signed (result % 4294967296) ≡ word_at bytes.now (at + 4)) }
+// N words from byte `at` on.
+fn words_at<const N: usize>(bytes: &Record, at: usize) -> [i32; N]
+    requires { at + 4 * N ≤ 112 }
+    ensures { result ≡ words_at bytes.now at N }
 {
-    join_eight(four_at(bytes, at), four_at(bytes, at + 4))
+    array::from_fn(|i| word_at(bytes, at + 4 * i))
 }
 
-// 16 bits, not signed: the proportion, "0 to 65,535".
-fn half_at(bytes: &[u8], at: usize) -> i32
-    requires { at + 2 ≤ length bytes.now }
-    ensures { result ≡ pos (byte bytes.now at * 256 + byte bytes.now (at + 1)) }
-{
-    join_two(bytes[at], bytes[at + 1]) as i32
-}
-
-// Fills the words from byte `at` on.
-fn fill_words(words: &mut [i32], bytes: &[u8], at: usize)
-    requires { at + 4 * length words.old ≤ length bytes.now }
-    ensures { words.new ≡ words_at bytes.now at (length words.old) }
-{
-    let n = words.len();
-    for i in 0..n {
-        words[i] = word_at(bytes, at + 4 * i);
-    }
-}
-
-// Fills the words from byte `at` on, two at a time: eight bytes are then one load and one store.
-fn fill_pairs(words: &mut [i32], bytes: &[u8], at: usize)
-    requires { (at + 4 * length words.old ≤ length bytes.now) × (length words.old % 2 ≡ 0) }
-    ensures { words.new ≡ words_at bytes.now at (length words.old) }
-{
-    let n = words.len() / 2;
-    for i in 0..n {
-        let two = two_words_at(bytes, at + 8 * i);
-        words[2 * i] = signed_from((two / 4294967296) as u32);
-        words[2 * i + 1] = signed_from((two % 4294967296) as u32);
-    }
-}
-
-// Cell words 1 to 23 that a call carries: proportion, ramps, pairs. The caller lends them: 23 words returned are copied.
-pub fn read_offer(bytes: &[u8], words: &mut [i32])
-    requires { (length bytes.now ≡ 112) × (length words.old ≡ 23) }
+// Cell words 1 to 23 that a call carries: proportion, "0 to 65,535", ramps, pairs. The caller lends them: 23 words returned are copied.
+pub fn read_offer(bytes: &Record, words: &mut [i32; offer::WORDS])
     ensures { words.new ≡ offer_in bytes.now }
 {
-    words[offer::PROPORTION] = half_at(bytes, PROPORTION);
+    let proportion = [bytes[PROPORTION], bytes[PROPORTION + 1]];
+    words[offer::PROPORTION] = i32::from(u16::from_be_bytes(proportion));
     words[offer::RAMP_UP] = word_at(bytes, RAMP_UP);
     words[offer::RAMP_DOWN] = word_at(bytes, RAMP_DOWN);
-    fill_pairs(&mut words[offer::PAIRS..offer::WORDS], bytes, W0);
+    words[offer::PAIRS..].copy_from_slice(&words_at::<PAIR_WORDS>(bytes, W0));
 }
 
 // W0 to W16.
-pub fn capability_in(bytes: &[u8]) -> [i32; facility::CAPABILITY]
-    requires { length bytes.now ≡ 112 }
+#[tactic(auto, unfolding(book_rules::specs::Record::capability_in))]
+pub fn capability_in(bytes: &Record) -> [i32; facility::CAPABILITY]
     ensures { result ≡ capability_in bytes.now }
 {
-    let mut words = [0i32; facility::CAPABILITY];
-    fill_words(&mut words, bytes, W0);
-    words
+    words_at(bytes, W0)
 }
 
 // 2 "not 112 bytes, or mark, version or call wrong", of 112 bytes.
-fn is_record(bytes: &[u8]) -> bool
-    requires { length bytes.now ≡ 112 }
+fn is_record(bytes: &Record) -> bool
     ensures { result ≡ is_record bytes.now }
 {
-    let marked = ((bytes[0] == b'S') & (bytes[1] == b'O')) & (bytes[2] == b'B');
-    if !(marked & (bytes[3] == 0)) {
-        return false;
-    }
-    if bytes[4] != 1 {
-        return false;
-    }
-    (1 <= bytes[CALL]) & (bytes[CALL] <= 9)
-}
-
-// A byte as a count.
-fn wide(x: u8) -> u64
-    ensures { result ≡ x }
-{
-    x as u64
+    bytes.starts_with(b"SOB\0\x01") && (1..=9).contains(&bytes[CALL])
 }
 
 // The calls that use byte 6, the facility, and byte 7, the service.
+#[tactic(auto, using(crate::proofs::UnknownCalls::unknown_uses_none), unfolding(book_rules::specs::Record::used))]
 fn is_outside_where_used(call: u8, no_facility: bool, no_service: bool) -> bool
     ensures { (s : ℕ) → result ≡ ((used call s 6 && no_facility) || (used call s 7 && no_service)) }
 {
@@ -169,13 +88,14 @@ fn is_outside_where_used(call: u8, no_facility: bool, no_service: bool) -> bool
 }
 
 // 3 "facility ≥ F or service ≥ S, where used". Most records have both below, and then no call is told from another.
-fn is_outside(bytes: &[u8], facilities: u64, services: u64) -> bool
-    requires { length bytes.now ≡ 112 }
+// Two tests: joined by `||` they take two instructions more.
+#[tactic(auto, unfolding(book_rules::specs::Record::outside))]
+fn is_outside(bytes: &Record, facilities: u64, services: u64) -> bool
     ensures { result ≡ outside bytes.now facilities services }
 {
     let call = bytes[CALL];
-    let no_facility = facilities <= wide(bytes[FACILITY]);
-    let no_service = services <= wide(bytes[SERVICE]);
+    let no_facility = facilities <= u64::from(bytes[FACILITY]);
+    let no_service = services <= u64::from(bytes[SERVICE]);
     if no_facility {
         return is_outside_where_used(call, no_facility, no_service);
     }
@@ -185,89 +105,91 @@ fn is_outside(bytes: &[u8], facilities: u64, services: u64) -> bool
     false
 }
 
-// Whether a byte from `from` to before `to` is not zero.
-fn any_set(bytes: &[u8], from: usize, to: usize) -> bool
-    requires { (from ≤ to) × (to ≤ 112) × (length bytes.now ≡ 112) }
-    ensures { result ≡ any_set bytes.now from (to - from) }
+// Whether a byte of a gap is not zero, asked of all without a branch. A fold takes some ten instructions more for an offer of service 1 to 4.
+#[tactic(auto, using(crate::proofs::StrayBytes::set_more, crate::proofs::StrayBytes::set_end))]
+fn any_set(gap: &[u8]) -> bool
+    ensures { result ≡ any_set gap.now 0 (length gap.now) }
 {
-    let mut seen = false;
-    for i in from..to {
-        seen = seen | (bytes[i] != 0);
+    let mut any = false;
+    for byte in gap {
+        any |= *byte != 0;
     }
-    seen
+    any
 }
 
 // 4 of an offer, standing or variation, by its service.
 // "An offer for service 0 uses both ramps and ten pairs; for 1 to 3 the proportion and five pairs; for 4 five pairs."
 // The gaps of service 0 are tested apart: A and B by themselves are one comparison of eight bytes.
-fn has_stray_beside_offer(bytes: &[u8], service: u8) -> bool
-    requires { length bytes.now ≡ 112 }
+// In line, or calls 3 and 4 share a copy out of line, which takes some ten instructions more.
+#[inline(always)]
+fn has_stray_beside_offer(bytes: &Record, service: u8) -> bool
     ensures { result ≡ any_stray (used 3 service) 6 (drop 6 bytes.now) }
 {
     if service == facility::ENERGY {
-        any_set(bytes, ZERO, RAMP_UP) || any_set(bytes, A, W0)
+        any_set(&bytes[ZERO..RAMP_UP]) || any_set(&bytes[A..W0])
     } else if service < facility::REGULATION {
-        any_set(bytes, ZERO, PROPORTION)
-            | (any_set(bytes, RAMP_UP, W0) | any_set(bytes, W10, BYTES))
+        any_set(&bytes[ZERO..PROPORTION]) | (any_set(&bytes[RAMP_UP..W0]) | any_set(&bytes[W10..]))
     } else {
-        any_set(bytes, ZERO, W0) | any_set(bytes, W10, BYTES)
+        any_set(&bytes[ZERO..W0]) | any_set(&bytes[W10..])
     }
 }
 
 // 4 "an unused byte not zero": the gaps between the bytes of "The nine calls and what they use", from byte 6 on.
-// Their ends are constants: a match for each byte takes thirty times as long. Calls 3 and 4 use the same bytes; their test is compiled in
-// place as it is called once.
-fn has_stray(bytes: &[u8]) -> bool
-    requires { length bytes.now ≡ 112 }
+// Their ends are constants: a match for each byte takes thirty times as long.
+fn has_stray(bytes: &Record) -> bool
     ensures { result ≡ has_stray bytes.now }
 {
     let call = bytes[CALL];
     match call {
-        1 => return any_set(bytes, FACILITY, A) | any_set(bytes, B, BYTES),
-        2 => return any_set(bytes, SERVICE, W0) | any_set(bytes, W17, BYTES),
-        3 => {}
-        4 => {}
-        5 => return any_set(bytes, SERVICE, A) | any_set(bytes, W0, BYTES),
-        6 => return any_set(bytes, FACILITY, REASON)
-            | (any_set(bytes, ZERO, A) | any_set(bytes, W0, BYTES)),
-        7 => return any_set(bytes, FACILITY, REASON) | any_set(bytes, ZERO, BYTES),
-        8 => return any_set(bytes, REASON, BYTES),
-        9 => return any_set(bytes, FACILITY, SERVICE) | any_set(bytes, REASON, BYTES),
-        0 | 10..=255 => return any_set(bytes, FACILITY, BYTES),
+        1 => any_set(&bytes[FACILITY..A]) | any_set(&bytes[B..]),
+        2 => any_set(&bytes[SERVICE..W0]) | any_set(&bytes[W17..]),
+        3 => has_stray_beside_offer(bytes, bytes[SERVICE]),
+        4 => has_stray_beside_offer(bytes, bytes[SERVICE]),
+        5 => any_set(&bytes[SERVICE..A]) | any_set(&bytes[W0..]),
+        6 => any_set(&bytes[FACILITY..REASON]) | (any_set(&bytes[ZERO..A]) | any_set(&bytes[W0..])),
+        7 => any_set(&bytes[FACILITY..REASON]) | any_set(&bytes[ZERO..]),
+        8 => any_set(&bytes[REASON..]),
+        9 => any_set(&bytes[FACILITY..SERVICE]) | any_set(&bytes[REASON..]),
+        0 | 10..=255 => any_set(&bytes[FACILITY..]),
     }
-    has_stray_beside_offer(bytes, bytes[SERVICE])
 }
 
-// 2, 3, 4 or 0, for F facilities and S services.
-pub fn record_number(bytes: &[u8], facilities: u64, services: u64) -> u8
-    ensures { (result ≡ record_number bytes.now facilities services) × (result ≤ 4) }
+// 2, 3, 4, for F facilities and S services; else the record.
+#[tactic(auto, using(layout::proofs::Chains::passed_first, layout::proofs::Chains::refused_first, crate::proofs::Refused::drawn_at_most, crate::proofs::Refused::other_length), unfolding(book_rules::specs::Record::record_number))]
+pub fn test_record(bytes: &[u8], facilities: u64, services: u64) -> Result<&Record, Refusal>
+    ensures number { drawn result ≡ record_number bytes.now facilities services }
+    ensures most { drawn result ≤ 4 }
+    ensures same { IfOk result (λ r. r.now ≡ bytes.now) }
 {
-    if bytes.len() != BYTES {
-        return refusal::NOT_A_RECORD;
-    }
-    if !is_record(bytes) {
-        return refusal::NOT_A_RECORD;
-    }
-    if is_outside(bytes, facilities, services) {
-        return refusal::NOT_IN_BOOK;
-    }
-    first(has_stray(bytes), refusal::UNUSED_BYTE, 0)
+    let record = bytes.as_array().ok_or(Refusal::NotARecord)?;
+    refuse_if(!is_record(record), Refusal::NotARecord)?;
+    refuse_if(is_outside(record, facilities, services), Refusal::NotInBook)?;
+    refuse_if(has_stray(record), Refusal::UnusedByte)?;
+    Ok(record)
 }
 
 // "F not 1 to 64, S not 1 or 5"
+#[tactic(auto, unfolding(book_rules::specs::Record::sizes_ok))]
 pub fn is_sized(facilities: i32, services: i32) -> bool
     ensures { result ≡ sizes_ok facilities services }
 {
-    ((1 <= facilities) & (facilities <= head::MOST_FACILITIES))
+    (1..=head::MOST_FACILITIES).contains(&facilities)
         & ((services == head::ONE_SERVICE) | (services == head::ALL_SERVICES))
 }
 
-// 20 where F or S is wrong, else 2, 3, 4 or 0.
+// 20 where F or S is wrong, else 2, 3 and 4.
+#[tactic(auto, using(layout::proofs::Chains::passed_first, layout::proofs::Chains::refused_first), unfolding(book_rules::specs::Record::record_test))]
+fn record_tested(bytes: &[u8], facilities: i32, services: i32) -> Result<(), Refusal>
+    ensures { drawn result ≡ record_test bytes.now facilities services }
+{
+    refuse_if(!is_sized(facilities, services), Refusal::Opening)?;
+    test_record(bytes, nat(facilities), nat(services))?;
+    Ok(())
+}
+
+// The number alone, for C.
 pub fn bilzhaan_record_test(bytes: &[u8], facilities: i32, services: i32) -> u32
     ensures { result ≡ record_test bytes.now facilities services }
 {
-    if !is_sized(facilities, services) {
-        return refusal::OPENING_REFUSED as u32;
-    }
-    record_number(bytes, nat(facilities), nat(services)) as u32
+    u32::from(drawn(record_tested(bytes, facilities, services)))
 }

@@ -1,16 +1,12 @@
 use Rattle.std.proofs.Common.{◌≡◌, true, leb, length, arith, rules}
 use mathlib.Core.Bool.{and_assoc}
 use mir.Facts.{sfits_lit}
-use borrow.Author.Tests.{lt-leb, le-leb}
+use borrow.Author.Tests.{le-leb}
 use Rattle.offer_rules.specs.Numbers.{word}
 use Rattle.book_rules.specs.Words.{book_mark, book_version, clock_place, is_book}
 use Rattle.units.proofs.Counts.{word_back}
 use Rattle.units.proofs.Signs.{eqb_bits}
 use Rattle.opening.proofs.is_book.Goals as goal
-
-pub returns-then-book-lt-WORDS : goal.returns-then-book-lt-WORDS
-unfolding is_book
-returns-then-book-lt-WORDS c = rw (lt-leb 64 (length c.args.book.now) c.if-book-lt-WORDS.true)
 
 pub returns : goal.returns
 unfolding is_book
@@ -22,4 +18,4 @@ returns c =
     let mark = eqb_bits (word w 0) book_mark (search rules) (sfits_lit tt) in
     let version = eqb_bits (word w 1) book_version (search rules) (sfits_lit tt) in
     let long : leb 64 (length w) ≡ true = le-leb 64 (length w) (omega arith) in
-    rw (mark, version, c.sizes_fit-fits.ensures, F, S, c.is_beyond.ensures, clock, long) (simp and_assoc)
+    rw (mark, version, c.is_some.ensures, c.that_fit-sizes.ensures.fits, F, S, c.is_beyond.ensures, clock, long) (simp and_assoc)

@@ -16,9 +16,6 @@ loop-f-preserved c =
     let k = length_facility in
     let from : 32 * (f + 1) ≡ 32 * f + 32 = omega arith in (
       omega arith,
-      search rules,
-      search rules,
-      rw (c.write_facility.ensures, c.loop-f.invariant.3, from, add-one f, facilities_snoc f)
+      rw (c.copy_from_slice.ensures.after, c.empty_facility.ensures, c.loop-f.invariant.1, from, add-one f, facilities_snoc f)
           (lent_next (empty_facilities f) c.args.words.now empty_facility (32 * f) (32 * f + 32) (length_facilities f) (omega arith)),
-      search rules,
     )

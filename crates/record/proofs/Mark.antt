@@ -1,0 +1,25 @@
+-- "Bytes 0–2 SOB; 3–4 version 1": the first five bytes, compared at once.
+use Rattle.std.proofs.Common.{◌≡◌, refl, sym, ℕ, List, [], ◌∷◌, length, Bool, true, false, ◌&&◌, eqb, arith}
+use mathlib.Core.Bool.{and_assoc, and-true}
+use borrow.Author.Tests.{eq-eqb, ne_eqb, eqb-true, eqb-false}
+use Rattle.std.specs.List.{starts_with}
+use Rattle.offer_rules.specs.Numbers.{between}
+use Rattle.book_rules.specs.Record.{byte, is_record}
+
+flipped : (a b : ℕ) → eqb a b ≡ eqb b a
+flipped a b = by (eqb b a) refl
+  where
+    by : (t : Bool) → eqb b a ≡ t → eqb a b ≡ t
+    by true e = eq-eqb a b (sym (eqb-true b a e))
+    by false e = ne_eqb a b (λ q. eqb-false b a e (sym q))
+
+pub marked : (b : List ℕ) → length b ≡ 112 → (starts_with eqb b (83 ∷ 79 ∷ 66 ∷ 0 ∷ 1 ∷ []) && between 1 9 (byte b 5)) ≡ is_record b
+unfolding is_record
+marked [] h = absurd (omega arith)
+marked (p ∷ []) h = absurd (omega arith)
+marked (p ∷ q ∷ []) h = absurd (omega arith)
+marked (p ∷ q ∷ r ∷ []) h = absurd (omega arith)
+marked (p ∷ q ∷ r ∷ s ∷ []) h = absurd (omega arith)
+marked (p ∷ q ∷ r ∷ s ∷ t ∷ l) h =
+    rw (eq-eqb (length (p ∷ q ∷ r ∷ s ∷ t ∷ l)) 112 h, flipped 83 p, flipped 79 q, flipped 66 r, flipped 0 s, flipped 1 t)
+    (simp (and_assoc, and-true))
