@@ -404,9 +404,17 @@ module _ (lowest highest : Price) where
       pub total_found : f.total.0 ≡ sum_of l
       total_found = ap (λ (g : Findings). g.total.0) to_first_blank ∙ walked_total none_yet (filled_part l) ∙ +ℤ_idl (sum_of (filled_part l)) ∙ sym (sum_of_first come_first)
 
-      pub draws_13_or_none : pairs_number lowest highest l ≡ draw (not f.rises) 13
+      order_draws : pairs_number lowest highest l ≡ draw (not f.rises) 13
       unfolding pairs_number draw ◌then◌
-      draws_13_or_none = rw (out_rest none_yet f l is_found, rest_in none_yet f l is_found rest_empty, none_refused, order_found)
+      order_draws = rw (out_rest none_yet f l is_found, rest_in none_yet f l is_found rest_empty, none_refused, order_found)
+
+      pub draws_13 : f.rises ≡ false → pairs_number lowest highest l ≡ 13
+      unfolding draw
+      draws_13 r = rw r at order_draws
+
+      pub draws_none : f.rises ≡ true → pairs_number lowest highest l ≡ 0
+      unfolding draw
+      draws_none r = rw r at order_draws
 
 -- ---- words that are all 0 are empty pairs
 

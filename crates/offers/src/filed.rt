@@ -26,6 +26,7 @@ impl<'a> Filed<'a> {
     // ---- its pairs
 
     // Those that its service doesn't use are empty.
+    #[tactic(auto, using(crate::proofs::Walks::unused_empty))]
     fn pairs(&self) -> &'a [[i32; 2]; 10]
         ensures each { (pairs_of result.now ≡ pairs self.now.offer.now) × (length result.now ≡ 10) }
         ensures unused { all_empty (drop (used_pairs self.now.service) (pairs self.now.offer.now)) ≡ true }
@@ -106,6 +107,7 @@ impl<'a> Filed<'a> {
 
     // The total of its pairs; where none is refused, "all non-blank pairs come first". The price order and the total stop at the first blank; they are
     // asked for once all pairs from it on are known to be blank.
+    #[tactic(auto, using(crate::proofs::Walks::draws_11, crate::proofs::Walks::draws_11_or_12, crate::proofs::Walks::draws_13, crate::proofs::Walks::draws_none, crate::proofs::Walks::come_first, crate::proofs::Walks::total_found))]
     pub fn judge_pairs(&self) -> Result<Sum, Refusal>
         ensures number { drawn result ≡ pairs_number self.now.limits.lowest self.now.limits.highest (pairs self.now.offer.now) }
         ensures passed { IfOk result (λ total. (total.0 ≡ sum_of (pairs self.now.offer.now)) × BlanksLast (pairs self.now.offer.now)) }

@@ -43,6 +43,7 @@ pub fn is_period_refused(clock: u64, period: i32) -> bool
 // ---- 11 to 16
 
 // The first that applies. Where none does, "all non-blank pairs come first".
+#[tactic(auto, using(layout::proofs::Chains::passed_first, layout::proofs::Chains::refused_first, crate::proofs::InOrder::in_order, crate::proofs::InOrder::draw_most, crate::proofs::InOrder::pairs_most, crate::proofs::InOrder::not_none))]
 pub fn check_offer(
     limits: &[i32; 6],
     capability: &[i32; 17],
@@ -51,7 +52,9 @@ pub fn check_offer(
     offer: &[i32; 23],
 ) -> Result<(), Refusal>
     requires { (service ≤ 4) × UsesFive service offer.now }
-    ensures { (drawn result ≡ offer_number limits.now capability.now service reason offer.now) × (drawn result ≤ 16) × (drawn result ≡ 0 → BlanksLast (pairs offer.now)) }
+    ensures number { drawn result ≡ offer_number limits.now capability.now service reason offer.now }
+    ensures bound { drawn result ≤ 16 }
+    ensures passed { drawn result ≡ 0 → BlanksLast (pairs offer.now) }
 {
     refuse_if(fields::LOAD_OUTAGE < reason, Refusal::OutOfRange)?;
     let filed = Filed {

@@ -6,7 +6,6 @@ ghost use Rattle.units.specs.Typed.{typed};
 ghost use Rattle.offers.specs.PairTests.{pairs_of, is_empty};
 
 use crate::sum::Sum;
-use layout::offer;
 use units::{Pair, Price, Quantity, pair_words};
 
 // ---- pairs, two words each
@@ -21,16 +20,18 @@ pub fn pair_in(words: &[i32; 2]) -> Pair
     }
 }
 
+#[tactic(auto, using(crate::proofs::Pairing::pairs_taken))]
 fn ten_pairs(words: &[i32; 20]) -> &[[i32; 2]; 10]
     ensures { (pairs_of result.now ≡ pairs_in words.now) × (length result.now ≡ 10) }
 {
     pair_words(words).first_chunk::<10>().unwrap()
 }
 
+#[tactic(auto, unfolding(offer_rules::specs::Offer::pairs))]
 pub fn pairs(offer: &[i32; 23]) -> &[[i32; 2]; 10]
     ensures { (pairs_of result.now ≡ pairs offer.now) × (length result.now ≡ 10) × (length offer.now ≡ 23) }
 {
-    ten_pairs(offer[offer::PAIRS..].first_chunk::<20>().unwrap())
+    ten_pairs(offer.last_chunk::<20>().unwrap())
 }
 
 // ---- ten quantities added
@@ -48,6 +49,7 @@ pub fn sum_of(pairs: &[i32; 20]) -> i64
 // ---- blank and empty pairs
 
 // A filed offer "whose pairs are all blank": as "all non-blank pairs come first", its first pair tells.
+#[tactic(auto, using(crate::proofs::Pairing::told_by_first))]
 pub fn is_all_blank(offer: &[i32; 23]) -> bool
     requires { BlanksLast (pairs offer.now) }
     ensures { result ≡ all_blank (pairs offer.now) }
