@@ -116,9 +116,10 @@ impl<'a> Filed<'a> {
         if !self.are_empty_from(f.filled) {
             return Err(self.blanks_refusal(f.filled));
         }
-        if !f.rises {
-            return Err(Refusal::PricesDontRise);
+        if f.rises {
+            Ok(f.total)
+        } else {
+            Err(Refusal::PricesDontRise)
         }
-        Ok(f.total)
     }
 }
