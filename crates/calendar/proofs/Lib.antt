@@ -1,4 +1,3 @@
 -- Laws that the proofs of the code cite.
-pub mod Words
 pub mod Months
 pub mod Years

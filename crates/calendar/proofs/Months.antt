@@ -13,16 +13,11 @@ use Rattle.calendar_rules.proofs.Everywhere.{passes_below, everywhere, agree}
 use Rattle.calendar_rules.proofs.Begun.{later_begins_later, none_other}
 use Rattle.calendar_rules.proofs.Lengths.{months_make_the_year, months_rise, in_each_month}
 
-pub year_at_most : (leap : Bool) → year_days leap ≤ 366
+year_at_most : (leap : Bool) → year_days leap ≤ 366
 year_at_most true = omega arith
 year_at_most false = omega arith
 
 -- ---- a month's days
-
-pub february_days : (leap : Bool) → 28 + cond leap 1 0 ≡ month_days leap 2
-unfolding month_days
-february_days true = refl
-february_days false = refl
 
 turns_agree : (leap : Bool) → passes_below (λ i. eqb (i + 1) 2 || eqb (30 + (i + 1 + (i + 1) / 8) % 2) (month_days leap (i + 1))) 12 ≡ true
 unfolding passes_below month_days
@@ -52,10 +47,13 @@ before_early leap m l h =
     let e : m - 1 + 1 ≡ m = omega arith in
     rw e at (agree (λ i. evenly (i + 1)) (λ i. days_before leap (i + 1)) 2 (early_agree leap) (m - 1) (omega arith))
 
-pub before_later : (leap : Bool) (m : ℕ) → 3 ≤ m → m ≤ 12 → evenly m + cond leap 1 0 - 2 ≡ days_before leap m
-before_later leap m l h =
+later : (leap : Bool) (m : ℕ) → 3 ≤ m → m ≤ 12 → evenly m + cond leap 1 0 - 2 ≡ days_before leap m
+later leap m l h =
     let e : m - 3 + 3 ≡ m = omega arith in
     rw e at (agree (λ i. evenly (i + 3) + cond leap 1 0 - 2) (λ i. days_before leap (i + 3)) 10 (later_agree leap) (m - 3) (omega arith))
+
+pub before_later : (leap : Bool) (m d k : ℕ) → 3 ≤ m → m ≤ 12 → d ≡ evenly m → k ≡ cond leap 1 0 → d + k - 2 ≡ days_before leap m
+before_later leap m d k l h e f = rw (e, f) (later leap m l h)
 
 pub before_at_most : (leap : Bool) (m : ℕ) → m ≤ 12 → days_before leap m ≤ 366
 before_at_most leap m h =

@@ -1,10 +1,10 @@
 -- Years by fours, of 1,461 days, the first of four being a leap year. That 2024 to 2099 go so is a test that the check computes.
 use mathlib.Core.Path.{◌≡◌, refl, sym}
-use mathlib.Core.Bool.{Bool, true, false}
+use mathlib.Core.Bool.{Bool, true, false, false≢true}
+use Rattle.std.specs.Prelude.{IsTrue, ◌↔◌}
 use Prim.Native.Nat.{ℕ, suc, ◌+◌, ◌*◌, ◌/◌, ◌%◌, ◌<◌, ◌≤◌}
 use native.Mathlib.Omega.{arith}
 use lib.Dec.{eqb}
-use borrow.Author.Tests.{eqb-true, eqb-false}
 use Rattle.calendar_rules.specs.Calendar.{first_year, is_leap, year_days, days_of_years, years_before, into_year}
 use Rattle.calendar_rules.proofs.Everywhere.{passes_below, agree}
 use Rattle.calendar_rules.proofs.Begun.{none_other}
@@ -12,12 +12,9 @@ use Rattle.calendar_rules.proofs.Lengths.{year_more, years_rise}
 use Rattle.calendar_rules.proofs.Claimed.{gregorian}
 
 -- No year of 2024 to 2099 is a multiple of 100.
-pub leap_by_fours : (n : ℕ) → n ≤ 75 → eqb (n % 4) 0 ≡ is_leap (first_year + n)
-leap_by_fours n h = go (eqb (n % 4) 0) refl
-  where
-    go : (t : Bool) → eqb (n % 4) 0 ≡ t → t ≡ is_leap (first_year + n)
-    go true e = let f = eqb-true (n % 4) 0 e in sym (gregorian.by_4 (first_year + n) (omega arith) (λ z. omega arith))
-    go false e = let f = eqb-false (n % 4) 0 e in sym (gregorian.by_none (first_year + n) (λ z. f (omega arith)))
+pub leap_by_fours : (n : ℕ) (t : Bool) → n ≤ 75 → (IsTrue t ↔ (n % 4 ≡ 0)) → t ≡ is_leap (first_year + n)
+leap_by_fours n true h e = let f = e.0 refl in sym (gregorian.by_4 (first_year + n) (omega arith) (λ z. omega arith))
+leap_by_fours n false h e = sym (gregorian.by_none (first_year + n) (λ z. false≢true (e.1 (omega arith))))
 
 abbrev by_fours : ℕ → ℕ
 by_fours n = (1461 * n + 3) / 4
@@ -29,17 +26,34 @@ fours_agree = refl
 pub years_by_fours : (n : ℕ) → n < 77 → (1461 * n + 3) / 4 ≡ days_of_years n
 years_by_fours n h = agree by_fours days_of_years 77 fours_agree n h
 
--- The year of a day.
-pub year_by_fours : (n : ℕ) → n ≤ 27758
-    → (4 * n / 1461 ≡ years_before n) × (4 * n / 1461 ≤ 75) × (days_of_years (4 * n / 1461) ≤ n)
-    × (n < days_of_years (4 * n / 1461) + year_days (is_leap (first_year + 4 * n / 1461)))
-year_by_fours n h =
+-- The year of a day, and what is left of the day in it.
+record InYear (n k : ℕ) : Type 0 where
+  at_most : k ≤ 75
+  is_year : k ≡ years_before n
+  has_begun : days_of_years k ≤ n
+  has_not_ended : n < days_of_years k + year_days (is_leap (first_year + k))
+
+year_found : (n : ℕ) → n ≤ 27758 → InYear n (4 * n / 1461)
+year_found n h =
     let k = 4 * n / 1461 in
     let most : k ≤ 75 = omega arith in
     let begun : days_of_years k ≤ n = rw (sym (years_by_fours k (omega arith))) (omega arith) in
     let next : n < days_of_years (suc k) = rw (sym (years_by_fours (suc k) (omega arith))) (omega arith) in
-    (sym (none_other days_of_years years_rise 75 n k most begun next), most, begun, rw year_more at next)
+    record {
+      at_most = most;
+      is_year = sym (none_other days_of_years years_rise 75 n k most begun next);
+      has_begun = begun;
+      has_not_ended = rw year_more at next;
+    }
 
--- And what is left of it.
+pub year_by_fours : (n : ℕ) → n ≤ 27758 → 4 * n / 1461 ≡ years_before n
+year_by_fours n h = (year_found n h).is_year
+
 pub left_by_fours : (n : ℕ) → n ≤ 27758 → 4 * n % 1461 / 4 ≡ into_year n
-left_by_fours n h = rw (sym (year_by_fours n h).0, sym (years_by_fours (4 * n / 1461) (omega arith))) (omega arith)
+left_by_fours n h = rw (sym (year_by_fours n h), sym (years_by_fours (4 * n / 1461) (omega arith))) (omega arith)
+
+pub left_in_year : (n : ℕ) → n ≤ 27758 → 4 * n % 1461 / 4 < year_days (is_leap (first_year + years_before n))
+left_in_year n h =
+    let y = year_found n h in
+    let e = left_by_fours n h in
+    rw (e, sym y.is_year) (omega (arith, y.has_begun, y.has_not_ended))

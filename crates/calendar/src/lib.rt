@@ -1,50 +1,41 @@
 // Dates and periods, for C: year, month, day and period to P, and P to these. No loop, no table and no book.
 #![tactic(auto)]
 
-ghost use Rattle.std.specs.Prelude.{◌≡◌, true, cond, ◌+◌, ◌-◌, ◌≤◌, ◌<◌};
+ghost use Rattle.std.specs.Prelude.{◌≡◌, ◌+◌, ◌-◌, ◌≤◌, ◌<◌};
 ghost use Rattle.offer_rules.specs.Numbers.{to_nat, between};
 ghost use Rattle.offer_rules.specs.Time.{periods_a_day};
-ghost use Rattle.calendar_rules.specs.Calendar.{first_year, last_day, last_period, is_leap, year_days, month_days, days_before, days_of_years, date_exists, day_number, period_of_day, weekday_of, period_in_day, years_before, into_year, month_at};
-ghost use Rattle.calendar_rules.specs.Answers.{is_date_and_period, period_found, period_answer, date_found, date_answer};
-ghost use Rattle.calendar.specs.Meaning.{period_answer_of, date_answer_of};
+ghost use Rattle.calendar_rules.specs.Calendar.{first_year, last_year, last_day, last_period, is_leap, year_days, month_days, days_before, days_of_years, date_exists, day_number, period_of_day, weekday_of, period_in_day, years_before, into_year, month_at};
+ghost use Rattle.calendar_rules.specs.Answers.{period_answer, date_answer};
+ghost use Rattle.calendar.specs.Meaning.{OrDate, period_outcome, period_answer_of, date_outcome, date_answer_of};
 ghost use Rattle.calendar.specs.Evened.{evenly, evened};
 
-use layout::{refusal, time};
+use layout::{Refusal, time};
 use units::{is_beyond, nat};
-
-fn counted(test: bool) -> u64
-    ensures { (result ≡ cond test 1 0) × (result ≤ 1) }
-{
-    if test { 1 } else { 0 }
-}
 
 // ---- years and months in days
 
-// Each fourth of 2024 to 2099 is a leap year, the first too: no multiple of 100 is among them.
-fn is_leap(years: u64) -> bool
-    requires { years ≤ 75 }
-    ensures { result ≡ is_leap (first_year + years) }
-{
-    years % 4 == 0
+// A year of "2024 to 2099", as the count of these before it.
+#[derive(Clone, Copy)]
+struct Year {
+    before: u64,
+    ghost to_2099: { before ≤ 75 },
 }
 
-// The days of the first n years, four of which have 1,461.
-fn days_of_years(n: u64) -> u64
-    requires { n ≤ 75 }
-    ensures { (result ≡ days_of_years n) × (result ≤ last_day) }
-{
-    (1461 * n + 3) / 4
-}
-
-// But for February, months of 31 and 30 days in turn, and again from August on.
-fn month_days(leap: bool, month: u64) -> u64
-    requires { (1 ≤ month) × (month ≤ 12) }
-    ensures { result ≡ month_days leap month }
-{
-    if month == 2 {
-        return 28 + counted(leap);
+impl Year {
+    // Each fourth of 2024 to 2099 is a leap year, the first too: no multiple of 100 is among them.
+    fn is_leap(self) -> bool
+        ensures { result ≡ is_leap (first_year + self.before) }
+    {
+        self.before.is_multiple_of(4)
     }
-    30 + (month + month / 8) % 2
+
+    // The days of the years before it, four of which have 1,461.
+    #[tactic(auto, using(crate::proofs::Years::years_by_fours))]
+    fn days_before(self) -> u64
+        ensures { (result ≡ days_of_years self.before) × (result ≤ last_day) }
+    {
+        (1461 * self.before + 3) / 4
+    }
 }
 
 // The days before a month, were February one of 30 days; before the year's end as month 13.
@@ -55,68 +46,146 @@ fn evenly(month: u64) -> u64
     (367 * month - 362) / 12
 }
 
-// After February it is two days less, in a leap year one.
-fn days_before(leap: bool, month: u64) -> u64
-    requires { (1 ≤ month) × (month ≤ 12) }
-    ensures { (result ≡ days_before leap month) × (result ≤ 366) }
-{
-    let days = evenly(month);
-    if month < 3 {
-        return days;
-    }
-    days + counted(leap) - 2
+// A month, January as 1, of a year that is a leap year or not.
+#[derive(Clone, Copy)]
+struct Month {
+    leap: bool,
+    number: u64,
+    ghost of_twelve: { (1 ≤ number) × (number ≤ 12) },
 }
 
-// "the day number mod 7, 0 for Monday". 37,450 is 262,144 / 7 and a little more: up to the last day the quotient is the same, and takes no division.
-fn weekday_of(day: u64) -> u64
-    requires { day ≤ last_day }
-    ensures { (result ≡ weekday_of day) × (result ≤ 6) }
-{
-    day - 7 * (day * 37450 / 262144)
+impl Month {
+    // But for February, months of 31 and 30 days in turn, and again from August on.
+    #[tactic(auto, using(crate::proofs::Months::days_in_turns), unfolding(calendar_rules::specs::Calendar::month_days))]
+    fn days(self) -> u64
+        ensures { (result ≡ month_days self.leap self.number) × (result ≤ 31) }
+    {
+        if self.number == 2 {
+            return 28 + u64::from(self.leap);
+        }
+        30 + (self.number + self.number / 8) % 2
+    }
+
+    // After February it is two days less than evenly, in a leap year one.
+    #[tactic(auto, using(crate::proofs::Months::before_early, crate::proofs::Months::before_later, crate::proofs::Months::before_at_most))]
+    fn days_before(self) -> u64
+        ensures { (result ≡ days_before self.leap self.number) × (result ≤ 366) }
+    {
+        let days = evenly(self.number);
+        if self.number < 3 {
+            return days;
+        }
+        days + u64::from(self.leap) - 2
+    }
+}
+
+// A day by its number: "Day 0 is 1 January 2024", and the last is 31 December 2099.
+#[derive(Clone, Copy)]
+struct Day {
+    number: u64,
+    ghost to_last: { number ≤ last_day },
+}
+
+impl Day {
+    // "the day number mod 7, 0 for Monday". 37,450 is 262,144 / 7 and a little more: up to the last day the quotient is the same, and takes no division.
+    fn weekday(self) -> u64
+        ensures { (result ≡ weekday_of self.number) × (result ≤ 6) }
+    {
+        self.number - 7 * (self.number * 37450 / 262144)
+    }
 }
 
 // ---- a date and period to P
 
-// No month has fewer than 28 days.
-fn is_day_of(leap: bool, month: u64, day: i32) -> bool
-    requires { (1 ≤ month) × (month ≤ 12) }
-    ensures { result ≡ between 1 (month_days leap month) (to_nat day) }
+// A word from lo to hi, as a count.
+fn counted(lo: i32, hi: i32, word: i32) -> Result<u64, Refusal>
+    requires { 1 ≤ to_nat lo }
+    ensures { OrDate (between (to_nat lo) (to_nat hi) (to_nat word)) (λ n. (n ≡ to_nat word) × (to_nat lo ≤ n) × (n ≤ to_nat hi)) result }
 {
-    if is_beyond(1, 28, day) {
-        return (28 < day) & (nat(day) <= month_days(leap, month));
+    if is_beyond(lo, hi, word) {
+        return Err(Refusal::Date);
     }
-    true
+    Ok(nat(word))
 }
 
-fn is_date_and_period(year: i32, month: i32, day: i32, period: i32) -> bool
-    ensures { result ≡ is_date_and_period (to_nat year) (to_nat month) (to_nat day) (to_nat period) }
-{
-    if is_beyond(time::FIRST_YEAR as i32, time::LAST_YEAR as i32, year) {
-        return false;
+impl TryFrom<i32> for Year {
+    type Error = Refusal;
+
+    ghost try_from_gives = { λ year r. OrDate (between first_year last_year (to_nat year)) (λ y. first_year + y.before ≡ to_nat year) r };
+
+    fn try_from(year: i32) -> Result<Year, Refusal> {
+        let year = counted(time::FIRST_YEAR as i32, time::LAST_YEAR as i32, year)?;
+        Ok(Year {
+            before: year - time::FIRST_YEAR,
+        })
     }
-    if is_beyond(1, 12, month) {
-        return false;
-    }
-    if is_beyond(1, time::DAY_PERIODS as i32, period) {
-        return false;
-    }
-    is_day_of(is_leap(nat(year) - time::FIRST_YEAR), nat(month), day)
 }
 
-fn day_number(year: u64, month: u64, day: u64) -> u64
-    requires { date_exists year month day ≡ true }
-    ensures { (result ≡ day_number year month day) × (result ≤ last_day) }
-{
-    let years = year - time::FIRST_YEAR;
-    days_of_years(years) + days_before(is_leap(years), month) + (day - 1)
+impl Year {
+    fn month(self, month: i32) -> Result<Month, Refusal>
+        ensures { OrDate (between 1 12 (to_nat month)) (λ m. (m.leap ≡ is_leap (first_year + self.before)) × (m.number ≡ to_nat month)) result }
+    {
+        let number = counted(1, 12, month)?;
+        Ok(Month {
+            leap: self.is_leap(),
+            number,
+        })
+    }
 }
 
-// "48 times the day number plus the period less 1"
-fn period_of_day(day: u64, period: u64) -> u64
-    requires { (day ≤ last_day) × (1 ≤ period) × (period ≤ periods_a_day) }
-    ensures { (result ≡ period_of_day day period) × (result ≤ last_period) }
+impl Month {
+    // No month has fewer than 28 days.
+    #[tactic(auto, using(calendar_rules::proofs::Lengths::at_least_28))]
+    fn day(self, day: i32) -> Result<u64, Refusal>
+        ensures { OrDate (between 1 (month_days self.leap self.number) (to_nat day)) (λ d. (d ≡ to_nat day) × (1 ≤ d)) result }
+    {
+        if day <= 28 {
+            return counted(1, 28, day);
+        }
+        counted(1, self.days() as i32, day)
+    }
+}
+
+impl Day {
+    // 21 where "the date doesn't exist, the year is outside 2024–2099"
+    #[tactic(auto, unfolding(calendar_rules::specs::Calendar::date_exists, calendar_rules::specs::Calendar::day_number), using(calendar_rules::proofs::RoundTrips::day_in_calendar))]
+    fn of(year: i32, month: i32, day: i32) -> Result<Day, Refusal>
+        ensures { OrDate (date_exists (to_nat year) (to_nat month) (to_nat day)) (λ d. d.number ≡ day_number (to_nat year) (to_nat month) (to_nat day)) result }
+    {
+        let year = Year::try_from(year)?;
+        let month = year.month(month)?;
+        let day = month.day(day)?;
+        Ok(Day {
+            number: year.days_before() + month.days_before() + (day - 1),
+        })
+    }
+
+    // "48 times the day number plus the period less 1"
+    fn period(self, period: u64) -> u64
+        requires { (1 ≤ period) × (period ≤ periods_a_day) }
+        ensures { (result ≡ period_of_day self.number period) × (result ≤ last_period) }
+    {
+        time::DAY_PERIODS * self.number + (period - 1)
+    }
+}
+
+// P and its weekday. Where `as` narrows, here and below, nothing is lost; `try_from` would add a refusal that can't be.
+#[derive(Clone, Copy)]
+struct DatedPeriod {
+    period: i32,
+    weekday: i32,
+}
+
+#[tactic(auto, unfolding(calendar_rules::specs::Answers::period_answer, calendar_rules::specs::Answers::period_for, calendar_rules::specs::Answers::is_date_and_period, calendar_rules::specs::Answers::period_found, calendar_rules::specs::Calendar::period_of_date))]
+fn period_of(year: i32, month: i32, day: i32, period: i32) -> Result<DatedPeriod, Refusal>
+    ensures { period_outcome result ≡ period_answer year month day period }
 {
-    time::DAY_PERIODS * day + (period - 1)
+    let day = Day::of(year, month, day)?;
+    let period = counted(1, time::DAY_PERIODS as i32, period)?;
+    Ok(DatedPeriod {
+        period: day.period(period) as i32,
+        weekday: day.weekday() as i32,
+    })
 }
 
 #[repr(C)]
@@ -127,87 +196,115 @@ pub struct Period {
     pub weekday: i32,
 }
 
-fn found_period(year: u64, month: u64, day: u64, period: u64) -> Period
-    requires { is_date_and_period year month day period ≡ true }
-    ensures { period_answer_of result ≡ period_found year month day period }
-{
-    let n = day_number(year, month, day);
-    let p = period_of_day(n, period);
-    let weekday = weekday_of(n);
-    Period {
-        number: 0,
-        period: p as i32,
-        weekday: weekday as i32,
+impl From<Result<DatedPeriod, Refusal>> for Period {
+    ghost from_gives = { λ outcome answer. period_answer_of answer ≡ period_outcome outcome };
+
+    fn from(outcome: Result<DatedPeriod, Refusal>) -> Period {
+        match outcome {
+            Ok(found) => Period {
+                number: 0,
+                period: found.period,
+                weekday: found.weekday,
+            },
+            Err(refusal) => Period {
+                number: u32::from(refusal.number()),
+                period: 0,
+                weekday: 0,
+            },
+        }
     }
 }
 
 pub fn bilzhaan_period_of(year: i32, month: i32, day: i32, period: i32) -> Period
     ensures { period_answer_of result ≡ period_answer year month day period }
 {
-    if is_date_and_period(year, month, day, period) {
-        return found_period(nat(year), nat(month), nat(day), nat(period));
-    }
-    Period {
-        number: refusal::DATE_REFUSED as u32,
-        period: 0,
-        weekday: 0,
-    }
+    Period::from(period_of(year, month, day, period))
 }
 
 // ---- P to a date and period
 
-// "periods 1 to 48"
-fn period_in_day(p: u64) -> u64
-    ensures { (result ≡ period_in_day p) × (result ≤ periods_a_day) }
-{
-    p % time::DAY_PERIODS + 1
-}
-
-// The years before the one that day n is in: four of them have 1,461 days.
-fn years_before(n: u64) -> u64
-    requires { n ≤ last_day }
-    ensures { (result ≡ years_before n) × (result ≤ 75) × (days_of_years result ≤ n) × (n < days_of_years result + year_days (is_leap (first_year + result))) }
-{
-    4 * n / 1461
-}
-
-// The days of that year before day n.
-fn into_year(n: u64) -> u64
-    requires { n ≤ last_day }
-    ensures { result ≡ into_year n }
-{
-    4 * n % 1461 / 4
-}
-
-// Day r of a year, r from 0, as it would be with a February of 30 days.
-fn evened(leap: bool, r: u64) -> u64
-    requires { r < year_days leap }
-    ensures { (result ≡ evened leap r) × (result ≤ 367) }
-{
-    let more = counted(leap);
-    if r < 59 + more {
-        return r;
-    }
-    r + 2 - more
-}
-
+// A day as one of its year, by the days of the year before it.
 #[derive(Clone, Copy)]
-struct MonthDay {
-    month: u64,
-    day: u64,
+struct DayOfYear {
+    leap: bool,
+    before: u64,
+    ghost in_year: { before < year_days leap },
 }
 
-// Day r of a year, r from 0: with a February of 30 days it falls among twelve months that share 367 days evenly.
-fn month_and_day(leap: bool, r: u64) -> MonthDay
-    requires { r < year_days leap }
-    ensures { (result.month ≡ month_at leap r) × (result.day ≡ r - days_before leap (month_at leap r) + 1) × (result.month ≤ 12) × (result.day ≤ 31) }
-{
-    let s = evened(leap, r);
-    let month = (12 * s + 373) / 367;
-    MonthDay {
-        month: month,
-        day: s - evenly(month) + 1,
+impl Day {
+    // Four years have 1,461 days.
+    #[tactic(auto, using(crate::proofs::Years::year_by_fours))]
+    fn year(self) -> Year
+        ensures { result.before ≡ years_before self.number }
+    {
+        Year {
+            before: 4 * self.number / 1461,
+        }
     }
+
+    #[tactic(auto, using(crate::proofs::Years::left_by_fours, crate::proofs::Years::left_in_year))]
+    fn in_year(self) -> DayOfYear
+        ensures { (result.leap ≡ is_leap (first_year + years_before self.number)) × (result.before ≡ into_year self.number) }
+    {
+        DayOfYear {
+            leap: self.year().is_leap(),
+            before: 4 * self.number % 1461 / 4,
+        }
+    }
+}
+
+impl DayOfYear {
+    // As it would be with a February of 30 days.
+    fn evened(self) -> u64
+        ensures { (result ≡ evened self.leap self.before) × (result ≤ 367) }
+    {
+        let more = u64::from(self.leap);
+        if self.before < 59 + more {
+            return self.before;
+        }
+        self.before + 2 - more
+    }
+
+    // The month and the day of it: with a February of 30 days it falls among twelve months that share 367 days evenly.
+    fn month_and_day(self) -> (u64, u64)
+        ensures month { (result.0 ≡ month_at self.leap self.before) × (result.0 ≤ 12) }
+        ensures day { (result.1 ≡ self.before - days_before self.leap (month_at self.leap self.before) + 1) × (result.1 ≤ 31) }
+    {
+        let s = self.evened();
+        let month = (12 * s + 373) / 367;
+        (month, s - evenly(month) + 1)
+    }
+}
+
+// A date and period, and their weekday.
+#[derive(Clone, Copy)]
+struct DatedDay {
+    year: i32,
+    month: i32,
+    day: i32,
+    period: i32,
+    weekday: i32,
+}
+
+#[tactic(auto, unfolding(calendar_rules::specs::Answers::date_answer, calendar_rules::specs::Answers::date_found, calendar_rules::specs::Calendar::date_of_day))]
+fn date_of(period: i32) -> Result<DatedDay, Refusal>
+    ensures { date_outcome result ≡ date_answer period }
+{
+    if is_beyond(0, time::LAST_DATED_PERIOD, period) {
+        return Err(Refusal::Date);
+    }
+    let p = nat(period);
+    let day = Day {
+        number: p / time::DAY_PERIODS,
+    };
+    let (month, day_of_month) = day.in_year().month_and_day();
+    Ok(DatedDay {
+        year: (time::FIRST_YEAR + day.year().before) as i32,
+        month: month as i32,
+        day: day_of_month as i32,
+        period: (p % time::DAY_PERIODS + 1) as i32, // "periods 1 to 48"
+        weekday: day.weekday() as i32,
+    })
 }
 
 #[repr(C)]
@@ -221,37 +318,33 @@ pub struct Date {
     pub weekday: i32,
 }
 
-fn found_date(p: u64) -> Date
-    requires { p ≤ last_period }
-    ensures { date_answer_of result ≡ date_found p }
-{
-    let n = p / time::DAY_PERIODS;
-    let years = years_before(n);
-    let found = month_and_day(is_leap(years), into_year(n));
-    let period = period_in_day(p);
-    let weekday = weekday_of(n);
-    Date {
-        number: 0,
-        year: (time::FIRST_YEAR + years) as i32,
-        month: found.month as i32,
-        day: found.day as i32,
-        period: period as i32,
-        weekday: weekday as i32,
+impl From<Result<DatedDay, Refusal>> for Date {
+    ghost from_gives = { λ outcome answer. date_answer_of answer ≡ date_outcome outcome };
+
+    fn from(outcome: Result<DatedDay, Refusal>) -> Date {
+        match outcome {
+            Ok(found) => Date {
+                number: 0,
+                year: found.year,
+                month: found.month,
+                day: found.day,
+                period: found.period,
+                weekday: found.weekday,
+            },
+            Err(refusal) => Date {
+                number: u32::from(refusal.number()),
+                year: 0,
+                month: 0,
+                day: 0,
+                period: 0,
+                weekday: 0,
+            },
+        }
     }
 }
 
 pub fn bilzhaan_date_of(period: i32) -> Date
     ensures { date_answer_of result ≡ date_answer period }
 {
-    if is_beyond(0, time::LAST_DATED_PERIOD, period) {
-        return Date {
-            number: refusal::DATE_REFUSED as u32,
-            year: 0,
-            month: 0,
-            day: 0,
-            period: 0,
-            weekday: 0,
-        };
-    }
-    found_date(nat(period))
+    Date::from(date_of(period))
 }

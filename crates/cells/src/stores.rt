@@ -51,11 +51,11 @@ pub fn store_offer(
     write_cell(&mut book[at..end], filing);
 }
 
-// "Other accepted calls write only the fields they carry." Over arrays, so that one, two or 17 words are each written at once.
+// "Other accepted calls write only the fields they carry."
 #[tactic(auto, unfolding(book_rules::specs::Words::put))]
-pub fn store_words<const N: usize>(book: &mut [i32], at: usize, words: &[i32; N])
-    requires { at + N ≤ length book.old }
+pub fn store_words(book: &mut [i32], at: usize, words: &[i32])
+    requires { at + length words.now ≤ length book.old }
     ensures { book.new ≡ put book.old at words.now }
 {
-    copy_words(&mut book[at..at + N], words);
+    book[at..at + words.len()].copy_from_slice(words);
 }

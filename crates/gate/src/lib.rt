@@ -133,14 +133,6 @@ fn tenths_of(pair: Pair) -> u64
     nat(pair.quantity.0)
 }
 
-// A pair read word by word: from a copy of both, which is read as one word of 64 bits, the merge takes a tenth longer.
-fn read_pair(words: &[i32; 2]) -> Pair
-    ensures { result ≡ typed words.now }
-{
-    let [price, quantity] = words;
-    Pair::from([*price, *quantity])
-}
-
 // Two pairs differ where both have tenths left, a and b, at two prices: a blank pair's price is never compared.
 #[tactic(auto, using(crate::proofs::Words::equal_words))]
 fn differ(x: Pair, a: u64, y: Pair, b: u64) -> bool
@@ -172,8 +164,8 @@ impl Walk<'_> {
         let (mut new, mut new_used) = (new.pairs, 0);
         let mut passed = 0;
         while let ([x, ..], [y, ..]) = (old, new) {
-            let x = read_pair(x);
-            let y = read_pair(y);
+            let x = Pair::from(x);
+            let y = Pair::from(y);
             let a = tenths_of(x).saturating_sub(old_used);
             let b = tenths_of(y).saturating_sub(new_used);
             if differ(x, a, y, b) {

@@ -1,5 +1,5 @@
 -- A chain of tests, each left by `?`, against numbers drawn in order.
-use Rattle.std.proofs.Common.{◌≡◌, ℕ, refl, ◌<◌}
+use Rattle.std.proofs.Common.{◌≡◌, ℕ, refl}
 use Rattle.offer_rules.specs.Numbers.{◌then◌}
 use Rattle.layout.specs.Refusal.{number}
 use Rattle.layout.specs.declared.refusal.Refusal.{Refusal}

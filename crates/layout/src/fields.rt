@@ -27,7 +27,7 @@ pub const W0: usize = 32;
 
 pub const BYTES: usize = 112;
 
-// Byte 12: the first and the last kind of a notice, and the last reason. Where byte 5 or 12 selects, a match has the paper's numbers.
+// Byte 12: the first and the last kind of a notice, and the last reason. Numbers, as document 01 asks: where byte 5 or 12 selects, a match has the paper's.
 pub const ENERGY_SURPLUS: u8 = 3;
 
 pub const SYSTEM_STATUS: u8 = 5;

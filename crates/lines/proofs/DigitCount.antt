@@ -1,17 +1,15 @@
--- How many digits a number has: the count in specs/Text is the fewest that hold it, no other count is, and how long a number's text can be.
-use mathlib.Core.Path.{◌≡◌, refl, ap}
+-- How many digits a number has: the count in specs/Text is the fewest that hold it, and no other count is.
+use mathlib.Core.Path.{◌≡◌, refl}
 use mathlib.Core.Bool.{Bool, true, false, cond}
 use Prim.Native.Nat.{ℕ, zero, suc, ◌+◌, ◌-◌, ◌/◌, ◌^◌, ◌≤◌, ◌<◌}
 use native.Mathlib.Nat.{pow-suc, pow-le-pow_right}
 use native.Mathlib.Omega.{arith}
 use native.Mathlib.Decide.{dec_le}
 use lib.Dec.{ltb}
-use lib.IntN.{ℤ, pos, negsuc}
-use lib.Signed.{mag}
 use lib.ListN.{length, length-append}
 use borrow.Author.Tests.{ltb-true, ltb-false}
 use Rattle.io.specs.Digits.{last_digits, IsDigitCount}
-use Rattle.lines.specs.Text.{count_from, digit_count, CountIsFewest, decimal, signed_decimal}
+use Rattle.lines.specs.Text.{count_from, digit_count, CountIsFewest, decimal}
 
 counted : (tries k n : ℕ) → 1 ≤ k → (1 < k → 10 ^ (k - 1) ≤ n) → n < 10 ^ (k + tries) → IsDigitCount 10 1 n (count_from tries k n)
 unfolding count_from
@@ -48,7 +46,7 @@ no_more_than n j k one holds fewest = by (dec_le k j)
         let rises : 10 ^ j ≤ 10 ^ (k - 1) = pow-le-pow_right {n = 10} (omega arith) {i = j} {j = k - 1} (omega arith) in
         absurd (omega arith)
 
-only_fewest : (n j k : ℕ) → IsDigitCount 10 1 n j → IsDigitCount 10 1 n k → j ≡ k
+pub only_fewest : (n j k : ℕ) → IsDigitCount 10 1 n j → IsDigitCount 10 1 n k → j ≡ k
 only_fewest n j k f g = omega (arith, no_more_than n j k f.0 f.1 g, no_more_than n k j g.0 g.1 f)
 
 length_digits : (b k n : ℕ) → length (last_digits b k n) ≡ k
@@ -59,18 +57,6 @@ length_decimal : (n : ℕ) → length (decimal n) ≡ digit_count n
 unfolding decimal
 length_decimal n = length_digits 10 (digit_count n) n
 
--- What `io::decimal` promises is the text in specs/Text.
-pub spelt : (n k : ℕ) → IsDigitCount 10 1 n k → (k ≡ length (decimal n)) × (last_digits 10 k n ≡ decimal n)
-unfolding decimal CountIsFewest
-spelt n k f =
-    let e : k ≡ digit_count n = only_fewest n k (digit_count n) f (count_is_fewest n) in
-    (rw length_decimal e, ap (λ (j : ℕ). last_digits 10 j n) e)
-
-pub decimal_within : (n k : ℕ) → 1 ≤ k → n < 10 ^ k → length (decimal n) ≤ k
+pub length_is : (n k : ℕ) → IsDigitCount 10 1 n k → length (decimal n) ≡ k
 unfolding CountIsFewest
-decimal_within n k one holds = rw length_decimal (no_more_than n k (digit_count n) one holds (count_is_fewest n))
-
-pub signed_within : (x : ℤ) (k : ℕ) → 1 ≤ k → mag x + 1 < 10 ^ k → length (signed_decimal x) ≤ k + 1
-unfolding signed_decimal
-signed_within (pos n) k one holds = omega (arith, decimal_within n k one (omega arith))
-signed_within (negsuc n) k one holds = omega (arith, decimal_within (suc n) k one (omega arith))
+length_is n k f = rw length_decimal (only_fewest n (digit_count n) k (count_is_fewest n) f)

@@ -1,3 +1,3 @@
--- What is printed of an answer, and what putting it into lent bytes promises.
+-- What is printed of an answer.
 pub mod Text
 pub mod Worked

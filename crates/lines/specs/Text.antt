@@ -1,6 +1,6 @@
 -- The text of an answer. Document 01: "Each record .. prints number, word 0, sum, parted by one space."
--- A number's digits are those that the kit's `io::decimal` promises.
-use Rattle.std.specs.Prelude.{◌≡◌, cond, List, [], ◌∷◌, ◌++◌, ℕ, zero, suc, ◌+◌, ◌^◌, ltb, ℤ, pos, negsuc, length, take, drop}
+-- A number's digits are those that the kit's `io::decimal` promises, and what the kit prints of it (proofs/Digits).
+use Rattle.std.specs.Prelude.{cond, List, [], ◌∷◌, ◌++◌, ℕ, zero, suc, ◌^◌, ltb, ℤ, pos, negsuc}
 use Rattle.io.specs.Digits.{last_digits, IsDigitCount}
 use Rattle.offer_rules.specs.Numbers.{word}
 use Rattle.book_rules.specs.Force.{Answer}
@@ -51,9 +51,3 @@ line a = text a.number (word a.words 0 ∷ []) a.sum
 -- Number, all 24 words, sum.
 unfoldable pub whole : Answer → List ℕ
 whole a = text a.number a.words a.sum
-
--- A text put into lent bytes from `at` on, and where it ends: the other bytes stay.
-pub record Put (piece : List ℕ) (at : ℕ) (before after : List ℕ) (end : ℕ) : Type 0 where
-  pub end_is : end ≡ at + length piece
-  pub bytes_are : after ≡ take at before ++ (piece ++ drop end before)
-  pub room_stays : length after ≡ length before

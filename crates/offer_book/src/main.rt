@@ -8,30 +8,24 @@ use lines::{print_line, read_full};
 use opening::open;
 use std::io::{Read, Write};
 
-// One record, and whether to go on: a short one is the last, and a write that fails ends the run.
-fn step<R: Read, W: Write>(input: &mut R, output: &mut W, words: &mut [i32]) -> bool {
+// One record, and none after the last: a short one is the last, and a write that fails ends the run.
+fn step<R: Read, W: Write>(input: &mut R, output: &mut W, words: &mut [i32]) -> Option<()> {
     let mut bytes = [0u8; fields::BYTES];
     let n = read_full(input, &mut bytes);
     if n == 0 {
-        return false;
+        return None;
     }
-    let written = print_line(output, call(words, &bytes[..n]));
-    written.is_ok() & (n == fields::BYTES)
+    print_line(output, call(words, &bytes[..n])).ok()?;
+    (n == fields::BYTES).then_some(())
 }
 
-// The loop has a number of turns that no run uses up.
-fn run<R: Read, W: Write>(input: &mut R, output: &mut W, words: &mut [i32]) {
-    for _ in 0..u64::MAX {
-        if !step(input, output, words) {
-            break;
-        }
-    }
-}
-
-// "a book of 16,224 words, all zero before opening, F 1, S 1, energy −4,500.00 to 4,500.00, others to 4,500.00"
+// "a book of 16,224 words, all zero before opening, F 1, S 1, energy −4,500.00 to 4,500.00, others to 4,500.00".
+// The records have a number that no run uses up.
 fn main(rt: HostRuntime) {
     let mut words = [0i32; 16224];
     let limits = [-450000, 450000, 450000, 450000, 450000, 450000];
-    open(&mut words, 1, 1, limits);
-    run(&mut rt.stdin(), &mut rt.stdout(), &mut words);
+    let _ = open(&mut words, 1, 1, limits);
+    let mut input = rt.stdin();
+    let mut output = rt.stdout();
+    let _ = (0..u64::MAX).try_for_each(|_| step(&mut input, &mut output, &mut words));
 }

@@ -5,7 +5,7 @@ ghost use Rattle.offer_rules.specs.Offer.{pairs, BlanksLast, sum_of, any_pair};
 ghost use Rattle.offers.specs.PairTests.{pairs_of, no_pair, all_empty, pair_is_out, found_in, pairs_number, used_pairs, UsesFive};
 
 use crate::limits::PriceLimits;
-use crate::pairs::{is_empty, pair_in, pairs};
+use crate::pairs::{is_empty, pairs};
 use crate::sum::Sum;
 use crate::walk::{Findings, walk};
 use layout::{Refusal, facility, offer};
@@ -80,7 +80,7 @@ impl<'a> Filed<'a> {
         used <= from
             || pairs[from..used]
                 .iter()
-                .all(|words| is_empty(pair_in(words)))
+                .all(|words| is_empty(Pair::from(words)))
     }
 
     fn is_any_out_from(&self, from: usize) -> bool
@@ -90,7 +90,7 @@ impl<'a> Filed<'a> {
         let limits = self.limits;
         self.pairs()[from..]
             .iter()
-            .any(|words| limits.is_out_of_range(pair_in(words)))
+            .any(|words| limits.is_out_of_range(Pair::from(words)))
     }
 
     // 11 or 12 of the pairs from the first blank on, where they are not all empty: 11 comes first.

@@ -2,23 +2,12 @@
 // Prices and quantities have types of their own, so that neither is taken for the other.
 ghost use Rattle.std.specs.Prelude.{◌≡◌, ◌≤◌, nat_abs, length};
 ghost use Rattle.offer_rules.specs.Offer.{pairs_in, pairs, all_blank, BlanksLast, sum_of};
-ghost use Rattle.units.specs.Typed.{typed};
 ghost use Rattle.offers.specs.PairTests.{pairs_of, is_empty};
 
 use crate::sum::Sum;
-use units::{Pair, Price, Quantity, pair_words};
+use units::{Pair, pair_words};
 
 // ---- pairs, two words each
-
-// Kept beside `Pair::from`, which copies both words as one of eight bytes: slower, by a tenth of an offer's test.
-pub fn pair_in(words: &[i32; 2]) -> Pair
-    ensures { result ≡ typed words.now }
-{
-    Pair {
-        price: Price(words[0]),
-        quantity: Quantity(words[1]),
-    }
-}
 
 #[tactic(auto, using(crate::proofs::Pairing::pairs_taken))]
 fn ten_pairs(words: &[i32; 20]) -> &[[i32; 2]; 10]
@@ -41,7 +30,7 @@ pub fn sum_of(pairs: &[i32; 20]) -> i64
 {
     let mut total = Sum(0);
     for words in ten_pairs(pairs) {
-        total = total + pair_in(words).quantity;
+        total = total + Pair::from(words).quantity;
     }
     total.0
 }
@@ -54,7 +43,7 @@ pub fn is_all_blank(offer: &[i32; 23]) -> bool
     requires { BlanksLast (pairs offer.now) }
     ensures { result ≡ all_blank (pairs offer.now) }
 {
-    pair_in(&pairs(offer)[0]).is_blank()
+    Pair::from(&pairs(offer)[0]).is_blank()
 }
 
 // Neither a price nor a quantity.

@@ -3,7 +3,6 @@ ghost use Rattle.std.specs.Prelude.{◌≡◌, ◌+◌, ◌*◌, ◌≤◌, nat_
 ghost use Rattle.offers.specs.PairTests.{pairs_of, still_rises, with_filled, found_from};
 
 use crate::limits::PriceLimits;
-use crate::pairs::pair_in;
 use crate::sum::Sum;
 use layout::Refusal;
 use units::{Pair, Price};
@@ -59,7 +58,7 @@ pub fn walk(limits: PriceLimits, start: Findings, pairs: &[[i32; 2]]) -> Result<
 {
     let mut f = start;
     for words in pairs {
-        let pair = pair_in(words);
+        let pair = Pair::from(words);
         if limits.is_out_of_range(pair) {
             return Err(Refusal::OutOfRange);
         }

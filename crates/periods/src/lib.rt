@@ -12,6 +12,6 @@ use layout::time;
 pub fn bilzhaan_next_period(minute: u32, slot: u32) -> u32
     ensures { (result ≡ next_period minute (slot_of slot)) × IsNext minute (slot_of slot) result }
 {
-    let first = minute as u64 / time::PERIOD_MINUTES + 1;
-    (first + (slot as u64 + (time::SLOTS - 1) * first) % time::SLOTS) as u32
+    let first = u64::from(minute) / time::PERIOD_MINUTES + 1;
+    (first + (u64::from(slot) + (time::SLOTS - 1) * first) % time::SLOTS) as u32
 }

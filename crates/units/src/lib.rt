@@ -32,6 +32,18 @@ impl From<[i32; 2]> for Pair {
     }
 }
 
+// Word by word, where a copy of both would be read as one word of 64 bits.
+impl From<&[i32; 2]> for Pair {
+    ghost from_gives = { λ words pair. pair ≡ typed words.now };
+
+    fn from([price, quantity]: &[i32; 2]) -> Pair {
+        Pair {
+            price: Price(*price),
+            quantity: Quantity(*quantity),
+        }
+    }
+}
+
 impl Pair {
     // "A pair with quantity 0 is blank"
     #[tactic(auto, unfolding(offer_rules::specs::Offer::is_blank))]
@@ -55,7 +67,7 @@ pub fn pair_words(words: &[i32]) -> &[[i32; 2]]
 pub fn nat(x: i32) -> u64
     ensures { (result ≡ to_nat x) × (result < 2147483648) }
 {
-    u64::try_from(x).unwrap_or(0)
+    x.max(0) as u64
 }
 
 // Outside lo to hi.

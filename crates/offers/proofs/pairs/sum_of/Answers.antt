@@ -11,11 +11,11 @@ use Rattle.offers.proofs.pairs.sum_of.Goals as goal
 pub loop-words-preserved : goal.loop-words-preserved
 loop-words-preserved c =
     let total = c.loop-words.total in
-    let x = c.pair_in.result in
+    let x = c.from.result in
     let q : SFits w32 x.quantity.0 = search rules in
     let e : c.add-total.result.0 ≡ total.0 +ℤ x.quantity.0 = c.add-total.ensures in (
       rw e (omega (arith, abs_add total.0 x.quantity.0, nat_abs-le x.quantity.0 q.sfits)),
-      sum_moves total.0 c.add-total.result.0 c.ten_pairs-words-items.result.now c.loop-words.words-index x (omega arith) c.pair_in.ensures e
+      sum_moves total.0 c.add-total.result.0 c.ten_pairs-words-items.result.now c.loop-words.words-index x (omega arith) c.from.ensures e
           ∙ c.loop-words.invariant.1,
     )
 

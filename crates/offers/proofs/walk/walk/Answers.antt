@@ -10,25 +10,25 @@ pub returns-then-is_out_of_range-clause-found : goal.returns-then-is_out_of_rang
 returns-then-is_out_of_range-clause-found c =
     let a = c.args in
     sym (sym c.loop-words.invariant.2
-    ∙ ends_here a.limits.lowest a.limits.highest c.loop-words.f a.pairs.now c.loop-words.words-index c.pair_in-pair.result (omega arith) c.pair_in-pair.ensures (sym c.is_out_of_range.ensures ∙ c.if-is_out_of_range.true))
+    ∙ ends_here a.limits.lowest a.limits.highest c.loop-words.f a.pairs.now c.loop-words.words-index c.from-pair.result (omega arith) c.from-pair.ensures (sym c.is_out_of_range.ensures ∙ c.if-is_out_of_range.true))
 
 pub returns-then-is_blank-clause-found : goal.returns-then-is_blank-clause-found
 returns-then-is_blank-clause-found c =
     let a = c.args in
     sym (sym c.loop-words.invariant.2
-    ∙ stops_here a.limits.lowest a.limits.highest c.loop-words.f a.pairs.now c.loop-words.words-index c.pair_in-pair.result (omega arith) c.pair_in-pair.ensures (sym c.is_out_of_range.ensures ∙ c.if-is_out_of_range.false) (sym c.is_blank.ensures ∙ c.if-is_blank.true))
+    ∙ stops_here a.limits.lowest a.limits.highest c.loop-words.f a.pairs.now c.loop-words.words-index c.from-pair.result (omega arith) c.from-pair.ensures (sym c.is_out_of_range.ensures ∙ c.if-is_out_of_range.false) (sym c.is_blank.ensures ∙ c.if-is_blank.true))
 
 pub loop-words-preserved : goal.loop-words-preserved
 unfolding with_filled
 loop-words-preserved c =
     let a = c.args in
-    let x = c.pair_in-pair.result in
+    let x = c.from-pair.result in
     let r : c.with_filled-f.result ≡ with_filled c.loop-words.f x.price x.quantity = c.with_filled-f.ensures in
     let q : SFits w32 x.quantity.0 = search rules in (
       rw r (omega arith),
       rw r (omega (arith, total_grows c.loop-words.f x.price x.quantity, nat_abs-le x.quantity.0 q.sfits)),
       ap (λ g. found_from a.limits.lowest a.limits.highest g (pairs_of (drop (c.loop-words.words-index + 1) a.pairs.now))) r
-          ∙ sym (goes_on_here a.limits.lowest a.limits.highest c.loop-words.f a.pairs.now c.loop-words.words-index x (omega arith) c.pair_in-pair.ensures (sym c.is_out_of_range.ensures ∙ c.if-is_out_of_range.false) (sym c.is_blank.ensures ∙ c.if-is_blank.false))
+          ∙ sym (goes_on_here a.limits.lowest a.limits.highest c.loop-words.f a.pairs.now c.loop-words.words-index x (omega arith) c.from-pair.ensures (sym c.is_out_of_range.ensures ∙ c.if-is_out_of_range.false) (sym c.is_blank.ensures ∙ c.if-is_blank.false))
           ∙ c.loop-words.invariant.2,
     )
 
