@@ -188,6 +188,7 @@ fn period_of(year: i32, month: i32, day: i32, period: i32) -> Result<DatedPeriod
     })
 }
 
+// As C gets it: 0 and what is found, or 21 and zeros.
 #[repr(C)]
 #[derive(Clone, Copy)]
 pub struct Period {
@@ -307,6 +308,7 @@ fn date_of(period: i32) -> Result<DatedDay, Refusal>
     })
 }
 
+// As C gets it: 0 and what is found, or 21 and zeros.
 #[repr(C)]
 #[derive(Clone, Copy)]
 pub struct Date {

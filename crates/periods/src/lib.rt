@@ -8,7 +8,7 @@ use layout::time;
 
 // "the least period of that slot not yet begun", "by remainder arithmetic alone": 335·first is 336·first − first, so the remainder is how many periods the
 // slot lies after first. (slot + 336 − first mod 336) mod 336 is the same, but in the call, where the slot is known to be below 336, it is compiled to a
-// conditional move. A slot of 336 or more is taken mod 336.
+// conditional move. A slot of 336 or more is taken mod 336. `as` narrows without loss here, and without the branch of `try_from`.
 pub fn bilzhaan_next_period(minute: u32, slot: u32) -> u32
     ensures { (result ≡ next_period minute (slot_of slot)) × IsNext minute (slot_of slot) result }
 {
