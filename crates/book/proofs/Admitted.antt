@@ -16,7 +16,8 @@ use Rattle.judging.specs.Usable.{Usable}
 use Rattle.judging.specs.Tested.{Tested, Facility, Place}
 use Rattle.layout.specs.Refusal.{number}
 use Rattle.layout.specs.declared.refusal.Refusal.{Refusal}
-use Rattle.judging.proofs.Answering.{Answers, is_drawn}
+use Rattle.layout.proofs.Chains.{is_drawn}
+use Rattle.judging.proofs.Answering.{Answers}
 use Rattle.book.specs.Tests.{tested_number}
 
 -- Refusal 1.

@@ -13,7 +13,7 @@ use cells::Answer;
 pub extern "C" fn bilzhaan_call(words: &mut [i32], bytes: &[u8]) -> Answer
     ensures { (answer_of result ≡ book_answer words.old bytes.now) × (words.new ≡ book_after words.old bytes.now) }
 {
-    book::bilzhaan_call(words, bytes)
+    book::call(words, bytes)
 }
 
 // What a gateway may hold against its header's BILZHAAN_VERSION.

@@ -5,7 +5,7 @@ use Rattle.std.proofs.lemmas.Result.{err_from_is_err_and}
 use Rattle.offer_rules.specs.Numbers.{◌then◌}
 use Rattle.layout.specs.Refusal.{number, drawn}
 use Rattle.layout.specs.declared.refusal.Refusal.{Refusal}
-use Rattle.layout.proofs.Chains.{passed_first, refused_first}
+use Rattle.layout.proofs.Chains.{passed_first, refused_first, is_drawn}
 use Rattle.book_rules.specs.Record.{call_of}
 use Rattle.book_rules.specs.Force.{Answer, plain}
 use Rattle.book_rules.specs.Refusals.{judge, reply}
@@ -16,10 +16,6 @@ use Rattle.judging.specs.Tested.{Tested}
 -- The answer a, the words v afterwards.
 abbrev pub Answers : List ℤ → List ℕ → Answer → List ℤ → Type 0
 Answers w b a v = (a ≡ book_answer w b) × (v ≡ book_after w b)
-
--- A refusal's number is drawn.
-pub is_drawn : (r : Refusal) → number r ≡ 0 → ⊥
-is_drawn r e = let z : ◌≡◌ {A = ℕ} 1 0 = sym (passed_first (number r) 1 e) ∙ refused_first r (number r) 1 refl ∙ e in omega arith
 
 -- A call whose number is that of a first test, or else of those after it.
 module _ {j : ℕ} (n m : ℕ) (e : j ≡ (n then m)) where

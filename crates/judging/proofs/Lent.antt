@@ -1,4 +1,4 @@
--- A part of the book that is lent on is a part of its words.
+-- The words of a part of the book.
 use mathlib.Core.Path.{◌≡◌, ◌∙◌, ap}
 use mathlib.Core.List.{List}
 use Prim.Native.Nat.{ℕ, ◌+◌, ◌-◌, ◌<◌}
@@ -9,10 +9,6 @@ use Rattle.offer_rules.specs.Numbers.{word}
 use Rattle.book_rules.specs.Words.{part}
 use Rattle.book_rules.specs.Book.{window_in}
 use Rattle.book_rules.proofs.Parts.{word_of_part}
-
-pub lent : (a n e : ℕ) (w : List ℤ) → e ≡ a + n → take (e - a) (drop a w) ≡ part a n w
-unfolding part
-lent a n e w h = let k : e - a ≡ n = omega arith in ap (λ (i : ℕ). take i (drop a w)) k
 
 -- The first word of a part.
 pub first_of_part : (a n : ℕ) (w : List ℤ) → 0 < n → word (part a n w) 0 ≡ word w a

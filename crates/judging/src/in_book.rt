@@ -61,7 +61,7 @@ impl<'a> Facility<'a> {
     }
 
     // 17 inside gate closure, with the pairs of old and those of new.
-    #[tactic(auto, using(crate::proofs::Stages::shut_draws, refusals::proofs::Bounds::draw_most))]
+    #[tactic(auto, using(crate::proofs::Stages::shut_draws, layout::proofs::Chains::draw_most))]
     pub(crate) fn check_gate(
         &self,
         filing: Filing,

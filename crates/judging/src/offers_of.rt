@@ -28,7 +28,7 @@ pub struct Series<'a> {
 
 impl<'a> Series<'a> {
     // 5, 9 and 10 of an offer, whose slot or period is refused or not. None of its words is asked for.
-    #[tactic(auto, using(layout::proofs::Chains::passed_first, layout::proofs::Chains::refused_first, refusals::proofs::Bounds::draw_most), unfolding(book_rules::specs::Refusals::admission_number))]
+    #[tactic(auto, using(layout::proofs::Chains::passed_first, layout::proofs::Chains::refused_first, layout::proofs::Chains::draw_most), unfolding(book_rules::specs::Refusals::admission_number))]
     pub fn check_admission(&self, refused: bool) -> Result<(), Refusal>
         ensures number { drawn result ≡ admission_number (part (facility_place self.now.facility.f) 17 self.now.facility.book.words.now) self.now.service refused }
         ensures bound { drawn result ≤ 10 }
@@ -136,7 +136,7 @@ impl<'a> Series<'a> {
     }
 
     // 17, then 18 where it is equal to the held one. "A first one always passes the gate."
-    #[tactic(auto, using(layout::proofs::Chains::passed_first, layout::proofs::Chains::refused_first, refusals::proofs::Bounds::draw_most), unfolding(book_rules::specs::Refusals::revision_number, book_rules::specs::Refusals::over_held))]
+    #[tactic(auto, using(layout::proofs::Chains::passed_first, layout::proofs::Chains::refused_first, layout::proofs::Chains::draw_most), unfolding(book_rules::specs::Refusals::revision_number, book_rules::specs::Refusals::over_held))]
     fn check_revision(&self, slot: usize, filed: Passed<'_>) -> Result<(), Refusal>
         requires { slot < 336 }
         ensures number { drawn result ≡ revision_number (to_nat (word self.now.facility.book.words.now clock_place)) (grounds (book_view self.now.facility.book.words.now) self.now.facility.f) self.now.service slot filed.entry.reason ((book_view self.now.facility.book.words.now).standing self.now.facility.f self.now.service slot) filed.entry.offer.now }

@@ -72,7 +72,7 @@ impl<'a> Book<'a> {
     }
 
     // 10 for P. Where it isn't drawn, P lies within the horizon of a clock in time.
-    #[tactic(auto, using(refusals::proofs::Bounds::draw_most, crate::proofs::Near::not_far), unfolding(book_rules::specs::Refusals::period_number))]
+    #[tactic(auto, using(layout::proofs::Chains::draw_most, crate::proofs::Near::not_far), unfolding(book_rules::specs::Refusals::period_number))]
     pub fn check_period(&self, period: i32) -> Result<(), Refusal>
         ensures number { drawn result ≡ period_number (to_nat (word self.now.words.now clock_place)) period }
         ensures bound { drawn result ≤ 10 }

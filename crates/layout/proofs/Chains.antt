@@ -1,6 +1,6 @@
 -- A chain of tests, each left by `?`, against numbers drawn in order.
-use Rattle.std.proofs.Common.{◌≡◌, ℕ, refl}
-use Rattle.offer_rules.specs.Numbers.{◌then◌}
+use Rattle.std.proofs.Common.{◌≡◌, ◌∙◌, Bool, true, false, ℕ, ◌≤◌, refl, sym, arith}
+use Rattle.offer_rules.specs.Numbers.{draw, ◌then◌}
 use Rattle.layout.specs.Refusal.{number}
 use Rattle.layout.specs.declared.refusal.Refusal.{Refusal}
 use Rattle.layout.specs.declared.refusal.Refusal.TheVariants.{BookUnusable, NotARecord, NotInBook, UnusedByte, NoKind, Clock, Notice, Capability, NotRegistered, Period, OutOfRange, Blank, PricesDontRise, Ramp, Proportion, AboveCapacity, GateClosed, Duplicate, NothingInForce, Opening, Date}
@@ -37,3 +37,13 @@ first_wins Date m = refl
 -- One that refuses draws its own.
 pub refused_first : (r : Refusal) (n m : ℕ) → number r ≡ n → (n then m) ≡ number r
 refused_first r n m e = rw (← e) (first_wins r m)
+
+-- A test draws at most its own number.
+pub draw_most : (applies : Bool) (n : ℕ) → draw applies n ≤ n
+unfolding draw
+draw_most true n = omega arith
+draw_most false n = omega arith
+
+-- A refusal's number is drawn.
+pub is_drawn : (r : Refusal) → number r ≡ 0 → ⊥
+is_drawn r e = let z : ◌≡◌ {A = ℕ} 1 0 = sym (passed_first (number r) 1 e) ∙ refused_first r (number r) 1 refl ∙ e in omega arith

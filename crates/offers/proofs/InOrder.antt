@@ -29,12 +29,7 @@ unfolding offer_number out_of_range pair_out_of_range pairs_number
 in_order limits c s reason o =
     parted (ltb 6 reason) (any_pair (pair_out_of_range limits s) (pairs o)) (blank_refused (pairs o)) (not (rises (non_blank_prices (pairs o)))) _
 
--- none is above what it draws
-pub draw_most : (t : Bool) (n : ℕ) → draw t n ≤ n
-unfolding draw
-draw_most true n = omega arith
-draw_most false n = omega arith
-
+-- and none above the last
 pub pairs_most : (lowest highest : Price) (l : List Pair) → pairs_number lowest highest l ≤ 13
 unfolding pairs_number draw ◌then◌
 pairs_most lowest highest l =
@@ -45,9 +40,3 @@ pairs_most lowest highest l =
     go false true d = omega arith
     go false false true = omega arith
     go false false false = omega arith
-
--- a refusal's number is above none
-pub not_none : (r : Refusal) → number r ≡ 0 → ⊥
-not_none r z =
-    let e : ◌≡◌ {A = ℕ} 1 0 = sym (passed_first (number r) 1 z) ∙ refused_first r (number r) 1 refl ∙ z in
-    omega arith

@@ -43,7 +43,7 @@ pub fn is_period_refused(clock: u64, period: i32) -> bool
 // ---- 11 to 16
 
 // The first that applies. Where none does, "all non-blank pairs come first".
-#[tactic(auto, using(layout::proofs::Chains::passed_first, layout::proofs::Chains::refused_first, crate::proofs::InOrder::in_order, crate::proofs::InOrder::draw_most, crate::proofs::InOrder::pairs_most, crate::proofs::InOrder::not_none))]
+#[tactic(auto, using(layout::proofs::Chains::passed_first, layout::proofs::Chains::refused_first, layout::proofs::Chains::draw_most, layout::proofs::Chains::is_drawn, crate::proofs::InOrder::in_order, crate::proofs::InOrder::pairs_most))]
 pub fn check_offer(
     limits: &[i32; 6],
     capability: &[i32; 17],

@@ -1,4 +1,3 @@
--- Laws of numbers drawn, of words that are lent, and of an outage that draws no number.
-pub mod Bounds
+-- Laws of words that are lent, and of an outage that draws no number.
 pub mod Lent
 pub mod OutagePassed

@@ -30,7 +30,7 @@ pub fn check_kind(capability: &[i32; facility::CAPABILITY]) -> Result<(), Refusa
 // ---- 6: the clock
 
 // "A below now or above 1,000,000,000"
-#[tactic(auto, using(crate::proofs::Bounds::draw_most), unfolding(book_rules::specs::Refusals::clock_number))]
+#[tactic(auto, using(layout::proofs::Chains::draw_most), unfolding(book_rules::specs::Refusals::clock_number))]
 pub fn check_clock(clock: u64, minute: i32) -> Result<(), Refusal>
     requires { clock ≤ 1000000000 }
     ensures number { drawn result ≡ clock_number clock minute }
@@ -46,7 +46,7 @@ pub fn check_clock(clock: u64, minute: i32) -> Result<(), Refusal>
 // ---- 7: outages, notices and withdrawals
 
 // "outage: not 0 ≤ m ≤ now, or n outside 1–3 (load 1–48)"; a link's always.
-#[tactic(auto, using(crate::proofs::Bounds::draw_most))]
+#[tactic(auto, using(layout::proofs::Chains::draw_most))]
 pub fn check_outage(
     clock: u64,
     capability: &[i32; facility::CAPABILITY],
@@ -75,7 +75,7 @@ pub fn outage_window(minute: i32, count: i32) -> [i32; 2]
 }
 
 // "notice: reason not 3–5, or not 0 ≤ A ≤ B ≤ 40,000,000"
-#[tactic(auto, using(crate::proofs::Bounds::draw_most))]
+#[tactic(auto, using(layout::proofs::Chains::draw_most))]
 pub fn check_notice(kind: u8, first: i32, last: i32) -> Result<(), Refusal>
     ensures number { drawn result ≡ notice_number kind first last }
     ensures bound { drawn result ≤ 7 }
@@ -87,7 +87,7 @@ pub fn check_notice(kind: u8, first: i32, last: i32) -> Result<(), Refusal>
 }
 
 // "withdrawal: reason not 5"
-#[tactic(auto, using(crate::proofs::Bounds::draw_most), unfolding(book_rules::specs::Refusals::withdrawal_number))]
+#[tactic(auto, using(layout::proofs::Chains::draw_most), unfolding(book_rules::specs::Refusals::withdrawal_number))]
 pub fn check_withdrawal(kind: u8) -> Result<(), Refusal>
     ensures number { drawn result ≡ withdrawal_number kind }
     ensures bound { drawn result ≤ 7 }
@@ -161,7 +161,7 @@ fn is_mark_refused(sent: &[i32; facility::CAPABILITY]) -> bool
     any_beyond(&sent[facility::REGISTERED..facility::CAPABILITY], 0, 1) | any_mark_astray(sent)
 }
 
-#[tactic(auto, using(crate::proofs::Bounds::draw_most), unfolding(book_rules::specs::Refusals::capability_number))]
+#[tactic(auto, using(layout::proofs::Chains::draw_most), unfolding(book_rules::specs::Refusals::capability_number))]
 pub fn check_capability(
     held: &[i32; facility::CAPABILITY],
     sent: &[i32; facility::CAPABILITY],
@@ -178,7 +178,7 @@ pub fn check_capability(
 // ---- 9: registration
 
 // "mark for the service not 1", or a service that the kind may not offer, whatever its marks.
-#[tactic(auto, using(crate::proofs::Bounds::draw_most), unfolding(book_rules::specs::Refusals::registration_number))]
+#[tactic(auto, using(layout::proofs::Chains::draw_most), unfolding(book_rules::specs::Refusals::registration_number))]
 pub fn check_registration(
     capability: &[i32; facility::CAPABILITY],
     service: u8,

@@ -3,6 +3,5 @@ pub mod Counts
 pub mod Signs
 pub mod Adding
 pub mod Copying
-pub mod Chains
 pub mod Chunks
 pub mod WordByWord

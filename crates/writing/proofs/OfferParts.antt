@@ -3,7 +3,7 @@ use Rattle.std.proofs.Common.{◌≡◌, sym, ◌∙◌, Bool, true, false, List
 use Rattle.offer_rules.specs.Numbers.{to_nat, word, zeros, ◌then◌}
 use Rattle.offer_rules.specs.Time.{slot_refused, period_refused}
 use Rattle.offer_rules.specs.Offer.{pairs, accepted_at, all_blank, offer_number}
-use Rattle.units.proofs.Chains.{then_none}
+use Rattle.layout.proofs.Chains.{passed_first}
 use Rattle.book_rules.specs.Record.{call_of, facility_of, service_of, period_word, reason_of, offer_in, has_stray}
 use Rattle.book_rules.specs.Words.{part, clock_place, limits_place, facility_place, cell, ramps_fit, holding}
 use Rattle.book_rules.specs.Force.{in_force, variation_made, will_stand, pairs_of}
@@ -46,7 +46,7 @@ module _ (w : List ℤ) (b : List ℕ) where
   -- one that is admitted
   pub admitted_parts : call_of b ≡ 4 → admission_of w b (period_refused (to_nat (word w clock_place)) (period_word b)) ≡ 0
       → judge (book_view w) b ≡ (own_offer_number then own_gate_number)
-  admitted_parts c z = variation_parts c ∙ then_none _ _ z
+  admitted_parts c z = variation_parts c ∙ passed_first _ _ z
 
 -- An offer that draws none has ramps that its cell gives back.
 module _ (w : List ℤ) (b : List ℕ) (t : Tested w b) where

@@ -5,7 +5,7 @@ use Rattle.layout.specs.Refusal.{number}
 use Rattle.layout.specs.declared.refusal.Refusal.{Refusal}
 use Rattle.book_rules.specs.Record.{word_at, words_at, capability_in}
 use Rattle.book_rules.specs.Refusals.{kind_refused, capability_number}
-use Rattle.judging.proofs.Answering.{is_drawn}
+use Rattle.layout.proofs.Chains.{is_drawn}
 
 drawn_eight : (held : List ℤ) (b : List ℕ) → kind_refused held (word_at b 32) ≡ true → capability_number held (capability_in b) ≡ 8
 unfolding capability_number capability_in words_at draw
