@@ -1,10 +1,9 @@
 -- The words of a part of the book.
 use mathlib.Core.Path.{◌≡◌, ◌∙◌, ap}
 use mathlib.Core.List.{List}
-use Prim.Native.Nat.{ℕ, ◌+◌, ◌-◌, ◌<◌}
+use Prim.Native.Nat.{ℕ, ◌+◌, ◌<◌}
 use native.Mathlib.Omega.{arith}
 use lib.IntN.{ℤ}
-use lib.ListN.{take, drop}
 use Rattle.offer_rules.specs.Numbers.{word}
 use Rattle.book_rules.specs.Words.{part}
 use Rattle.book_rules.specs.Book.{window_in}

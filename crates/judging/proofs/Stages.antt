@@ -1,5 +1,5 @@
 -- What an offer that passes 12 has, and the gate before closure and from it on.
-use Rattle.std.proofs.Common.{◌≡◌, ℕ, List, ℤ, true, false, not}
+use Rattle.std.proofs.Common.{◌≡◌, ℕ, List, true, false, not}
 use Rattle.offer_rules.specs.Numbers.{draw}
 use Rattle.offer_rules.specs.Offer.{Pair, BlanksLast, blank_before_filled, NoneBeforeFilled}
 use Rattle.offer_rules.specs.Gate.{Grounds, is_excepted, is_open, gate_refuses}

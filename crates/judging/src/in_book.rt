@@ -34,7 +34,9 @@ impl<'a> Facility<'a> {
         ensures { result.now ≡ part (facility_place self.now.f) 17 self.now.book.words.now }
     {
         let at = self.start();
-        self.book.words[at..at + facility::CAPABILITY].as_array().unwrap()
+        self.book.words[at..at + facility::CAPABILITY]
+            .as_array()
+            .unwrap()
     }
 
     // 5.

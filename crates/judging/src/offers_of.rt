@@ -132,7 +132,8 @@ impl<'a> Series<'a> {
             return Ok(());
         }
         let old = held.pairs();
-        self.facility.check_gate(filing, old, Offer::Filed(filed.pairs()))
+        self.facility
+            .check_gate(filing, old, Offer::Filed(filed.pairs()))
     }
 
     // 17, then 18 where it is equal to the held one. "A first one always passes the gate."

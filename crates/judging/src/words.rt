@@ -57,7 +57,9 @@ impl<'a> Book<'a> {
     pub(crate) fn limits(&self) -> &'a [i32; 6]
         ensures { result.now ≡ part limits_place 6 self.now.words.now }
     {
-        self.words[head::LIMITS..head::LIMITS_END].as_array().unwrap()
+        self.words[head::LIMITS..head::LIMITS_END]
+            .as_array()
+            .unwrap()
     }
 
     #[tactic(auto, using(units::proofs::Counts::word_back, crate::proofs::Lent::window_words))]
@@ -78,10 +80,7 @@ impl<'a> Book<'a> {
         ensures bound { drawn result ≤ 10 }
         ensures near { drawn result ≡ 0 → to_nat period < 40000000 }
     {
-        refuse_if(
-            is_period_refused(self.clock(), period),
-            Refusal::Period,
-        )
+        refuse_if(is_period_refused(self.clock(), period), Refusal::Period)
     }
 
     pub(crate) fn is_before_closure(&self, period: u64) -> bool

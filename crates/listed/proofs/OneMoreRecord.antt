@@ -1,5 +1,5 @@
 -- A turn of the loop over records: the words that one more record leaves, its answer and that answer's numbers; and the records themselves.
-use Rattle.std.proofs.Common.{◌≡◌, ◌∙◌, refl, sym, ap, List, [], ◌∷◌, ◌++◌, append_assoc, append-nil, ℕ, zero, suc, ◌+◌, ◌*◌, ◌≤◌, ◌<◌, ℤ, arith, length, take, drop, get_or, length-append, length-drop}
+use Rattle.std.proofs.Common.{◌≡◌, ◌∙◌, refl, sym, ap, List, [], ◌∷◌, ◌++◌, append_assoc, append-nil, ℕ, zero, suc, ◌+◌, ◌≤◌, ◌<◌, ℤ, arith, length, take, drop, get_or, length-append, length-drop}
 use Rattle.std.proofs.lemmas.List.{take_more}
 use Rattle.std.specs.Simd.{first_chunks}
 use Rattle.book_rules.specs.Force.{Answer}

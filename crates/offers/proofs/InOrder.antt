@@ -1,10 +1,7 @@
 -- The rule's numbers in the order in which the code asks for them, and the greatest of them.
-use Rattle.std.proofs.Common.{◌≡◌, refl, sym, ◌∙◌, Bool, true, false, not, ◌||◌, List, ℕ, ◌≤◌, ltb, ℤ, arith}
+use Rattle.std.proofs.Common.{◌≡◌, refl, Bool, true, false, not, ◌||◌, List, ℕ, ◌≤◌, ltb, ℤ, arith}
 use Rattle.offer_rules.specs.Numbers.{draw, ◌then◌}
 use Rattle.offer_rules.specs.Offer.{Pair, pairs, sum_of, any_pair, pair_out_of_range, out_of_range, blank_refused, non_blank_prices, rises, ramp_refused, proportion_refused, above_capacity, offer_number}
-use Rattle.layout.specs.Refusal.{number}
-use Rattle.layout.specs.declared.refusal.Refusal.{Refusal}
-use Rattle.layout.proofs.Chains.{passed_first, refused_first}
 use Rattle.offers.specs.Typed.{limits_of}
 use Rattle.units.specs.declared.Price.{Price}
 use Rattle.offers.specs.PairTests.{pair_is_out, pairs_number}

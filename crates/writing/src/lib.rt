@@ -78,13 +78,7 @@ fn file_offer(book: &mut [i32], place: CellPlace, filing: Filing<'_>)
     store_offer(book, facilities, services, place, filing);
 }
 
-fn file_standing(
-    book: &mut [i32],
-    f: usize,
-    s: usize,
-    slot: usize,
-    offer: &[i32; offer::WORDS],
-)
+fn file_standing(book: &mut [i32], f: usize, s: usize, slot: usize, offer: &[i32; offer::WORDS])
     requires { Usable book.old × (f < facilities_in book.old) × (s < services_in book.old) × (slot < 336) × (ramps_fit offer.now ≡ true) }
     ensures { book.new ≡ file_standing book.old f s slot offer.now }
 {
@@ -216,12 +210,7 @@ pub fn outage_call(book: &mut [i32], bytes: &Record) -> Result<(), Refusal>
         f: usize::from(bytes[fields::FACILITY]),
     };
     facility.check_kind()?;
-    refusals::check_outage(
-        facility.book.clock(),
-        facility.capability(),
-        minute,
-        count,
-    )?;
+    refusals::check_outage(facility.book.clock(), facility.capability(), minute, count)?;
     let at = facility.start() + facility::OUTAGE;
     store_words(book, at, &refusals::outage_window(minute, count));
     Ok(())

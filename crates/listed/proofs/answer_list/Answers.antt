@@ -1,4 +1,4 @@
-use Rattle.std.proofs.Common.{◌≡◌, ◌∙◌, ◌≤◌, ◌*◌, ◌/◌, ◌++◌, ℕ, ℤ, List, [], length, take, drop, min, refl, sym, ap, ap₂, arith, rules, length-take-le, to_z, of_z, w32}
+use Rattle.std.proofs.Common.{◌≡◌, ◌∙◌, ◌/◌, ℕ, ℤ, List, [], length, take, min, refl, sym, ap, arith, rules, length-take-le, to_z, of_z, w32}
 use borrow.Author.Tests.{ne_eqb}
 use mir.Val.{SFits}
 use mir.Facts.{to_z-of_z}

@@ -1,4 +1,4 @@
-use Rattle.std.proofs.Common.{◌≡◌, ◌∙◌, ◌+◌, ◌*◌, ◌-◌, [], ℕ, ℤ, List, length, take, get_or, ap, ap₂, sym, arith, rules}
+use Rattle.std.proofs.Common.{◌≡◌, ◌∙◌, ◌+◌, ◌*◌, ◌-◌, [], ℤ, List, length, take, get_or, ap, ap₂, sym, arith, rules}
 use borrow.Rule.Slice.PartMut.{put_mid}
 use Rattle.book_rules.specs.Book.{book_answer, book_after, book_answers, book_run}
 use Rattle.opening.proofs.LentParts.{lent_next}

@@ -1,4 +1,4 @@
-use Rattle.std.proofs.Common.{◌≡◌, ◌≤◌, ◌*◌, ◌++◌, length, drop, take}
+use Rattle.std.proofs.Common.{◌≡◌, ◌*◌, ◌++◌, length, drop, take}
 use Rattle.book_rules.specs.Book.{book_answers, book_run}
 use Rattle.listed.specs.ListAnswered.{flat}
 use Rattle.listed.proofs.answer_records.Given as goal

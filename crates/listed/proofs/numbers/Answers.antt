@@ -1,4 +1,4 @@
-use Rattle.std.proofs.Common.{◌≡◌, ◌∙◌, ◌++◌, ◌∷◌, [], ap, ap₂, rules, arith, pos, w64, to_z, of_z, slice_set, ℤ, List}
+use Rattle.std.proofs.Common.{◌≡◌, ◌∙◌, ◌++◌, ◌∷◌, [], ap₂, rules, arith, pos, w64, to_z, of_z, slice_set, ℤ, List}
 use lib.Seq.{set_at}
 use Rattle.listed.specs.ListAnswered.{numbers_of}
 use Rattle.listed.proofs.numbers.Goals as goal

@@ -1,4 +1,4 @@
-use Rattle.std.proofs.Common.{rules, ◌≡◌, ◌∙◌, sym}
+use Rattle.std.proofs.Common.{rules, ◌∙◌, sym}
 use Rattle.book_rules.specs.Refusals.{outage_number}
 use Rattle.refusals.proofs.OutagePassed.{outage_passed}
 use Rattle.refusals.proofs.check_outage.Goals as goal

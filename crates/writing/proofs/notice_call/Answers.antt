@@ -1,5 +1,5 @@
 use borrow.Author.Rules.{sfits_of}
-use Rattle.std.proofs.Common.{◌≡◌, arith, refl, sym, ◌∙◌, ◌+◌, ◌*◌, ◌-◌, ◌≤◌}
+use Rattle.std.proofs.Common.{◌≡◌, arith, refl, sym, ◌∙◌, ◌+◌, ◌*◌, ◌≤◌}
 use Rattle.units.proofs.Counts.{handed_on}
 use Rattle.book_rules.specs.Record.{reason_of}
 use Rattle.book_rules.specs.Words.{notice_place}

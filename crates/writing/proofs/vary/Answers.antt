@@ -1,5 +1,5 @@
 use borrow.Author.Rules.{sfits_of}
-use Rattle.std.proofs.Common.{◌≡◌, ◌<◌, arith, refl, sym, ◌∙◌, ap, inr}
+use Rattle.std.proofs.Common.{◌≡◌, arith, refl, sym, ◌∙◌, ap, inr}
 use Rattle.units.proofs.Counts.{handed_on}
 use Rattle.offer_rules.specs.Numbers.{to_nat, word}
 use Rattle.offer_rules.proofs.Periods.{period_is}
