@@ -95,14 +95,14 @@ impl<'a> Series<'a> {
         ensures number { drawn result ≡ gate_number (to_nat (word self.now.facility.book.words.now clock_place)) (grounds (book_view self.now.facility.book.words.now) self.now.facility.f) self.now.service period filed.entry.reason (pairs_of (in_force (book_view self.now.facility.book.words.now) self.now.facility.f self.now.service period)) (pairs_of (will_stand (book_view self.now.facility.book.words.now) self.now.facility.f self.now.service period filed.entry.offer.now)) }
         ensures bound { drawn result ≤ 17 }
     {
+        if self.facility.book.is_before_closure(period as u64) {
+            return Ok(());
+        }
         let filing = Filing {
             service: self.service,
             period: period as u64,
             reason: filed.reason,
         };
-        if self.facility.book.is_before_closure(filing.period) {
-            return Ok(());
-        }
         let old = self.pairs_before(period);
         let new = self.afterwards(period, filed);
         self.facility.check_gate(filing, old, new)
@@ -123,14 +123,14 @@ impl<'a> Series<'a> {
         ensures bound { drawn result ≤ 17 }
     {
         let next = self.facility.book.next_period(slot);
+        if self.facility.book.is_before_closure(next as u64) {
+            return Ok(());
+        }
         let filing = Filing {
             service: self.service,
             period: next as u64,
             reason: filed.reason,
         };
-        if self.facility.book.is_before_closure(filing.period) {
-            return Ok(());
-        }
         let old = held.pairs();
         self.facility
             .check_gate(filing, old, Offer::Filed(filed.pairs()))
