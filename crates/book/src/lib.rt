@@ -20,7 +20,7 @@ use writing::{
     withdrawal_call,
 };
 
-// 1, then 2 to 4; the bytes as a record.
+// 1, then 2 to 4; the bytes as a record. `as u64`: of usize and u64 there is no From.
 #[tactic(auto, using(crate::proofs::Admitted::usable), unfolding(offer_rules::specs::Numbers::draw))]
 fn tested<'a>(book: &[i32], bytes: &'a [u8]) -> Result<&'a Record, Refusal>
     ensures number { drawn result ≡ tested_number book.now bytes.now }

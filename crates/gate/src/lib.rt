@@ -27,6 +27,7 @@ impl Window {
         requires { period < 2147483648 }
         ensures { result ≡ covers (window_of self) period }
     {
+        // `as`, proved to lose nothing: a `try_from` would be tested as it runs.
         (self.first..=self.last).contains(&(period as i32))
     }
 }

@@ -13,7 +13,7 @@ pub struct Passed<'a> {
 }
 
 impl<'a> Passed<'a> {
-    // The words of its pairs.
+    // The words of its pairs, as `cells` takes a cell's: both are std's last_chunk, which is generic already.
     pub(crate) fn pairs(&self) -> &'a [i32; 20]
         ensures { result.now ≡ drop 3 self.now.offer.now }
     {

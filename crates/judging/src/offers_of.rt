@@ -1,4 +1,5 @@
 // A facility's offers for one service.
+// `period as u64` loses nothing: of usize and u64 there is no From.
 ghost use Rattle.std.specs.Prelude.{◌≡◌, true, false, ◌+◌, ◌≤◌, ◌<◌, length};
 ghost use Rattle.std.proofs.Math.Option.{none};
 ghost use Rattle.offer_rules.specs.Numbers.{to_nat, word};
@@ -27,7 +28,7 @@ pub struct Series<'a> {
 }
 
 impl<'a> Series<'a> {
-    // 5, 9 and 10 of an offer, whose slot or period is refused or not. None of its words is asked for.
+    // 5, 9 and 10 of an offer, of which it is told whether its slot or its period is refused: 10 comes last, whichever it asks. None of its words is asked for.
     #[tactic(auto, using(layout::proofs::Chains::passed_first, layout::proofs::Chains::refused_first, layout::proofs::Chains::draw_most), unfolding(book_rules::specs::Refusals::admission_number))]
     pub fn check_admission(&self, refused: bool) -> Result<(), Refusal>
         ensures number { drawn result ≡ admission_number (part (facility_place self.now.facility.f) 17 self.now.facility.book.words.now) self.now.service refused }

@@ -1,4 +1,5 @@
 // A book that passes 1, and its head.
+// Conversions stay `as`, proved to lose nothing: of u64 and usize there is no From, and a `try_from` would be tested as it runs.
 ghost use Rattle.std.specs.Prelude.{◌≡◌, ◌+◌, ◌≤◌, ◌<◌, length};
 ghost use Rattle.offer_rules.specs.Numbers.{to_nat, word};
 ghost use Rattle.offer_rules.specs.Time.{next_period};
@@ -24,6 +25,7 @@ pub struct Book<'a> {
 }
 
 impl<'a> Book<'a> {
+    // F and S: a word each, with the promise of its own.
     pub fn facilities(&self) -> usize
         ensures { result ≡ facilities_in self.now.words.now }
     {

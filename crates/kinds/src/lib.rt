@@ -93,6 +93,8 @@ pub fn kind_row(word: i32) -> Row
     }
 }
 
+// One function a number, each under the name of the rule's word that its callers' contracts cite; they differ in the column alone.
+
 // 5 and 8.
 #[tactic(auto, unfolding(offer_rules::specs::Kinds::kind_row))]
 pub fn is_kind(kind: i32) -> bool

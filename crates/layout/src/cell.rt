@@ -21,10 +21,7 @@ pub const SLOTS: usize = time::SLOTS as usize;
 // "16,128·F·S": the cells of a facility for one service, two halves of a cell for each slot.
 pub const SERVICE_WORDS: usize = 2 * SLOTS * WORDS;
 
-pub const STANDING_HALF: usize = 0;
-
-pub const VARIATION_HALF: usize = 1;
-
+// Numbers, as a cell's word 0 is: a stamp is held against it, and a variation's is P + 1.
 pub const EMPTY_STAMP: u32 = 0;
 
 pub const STANDING_STAMP: u32 = 1;

@@ -94,6 +94,8 @@ fn print<W: Write>(out: &mut W, text: &str) -> io::Result<()>
     out.flush()
 }
 
+// Each of the two prints the text of its name; what they share is `print`.
+
 // An answer's line.
 pub fn print_line<W: Write>(out: &mut W, answer: Answer) -> io::Result<()>
     ensures { OnOk result (Appends (W.contents out.old) (W.contents out.new) (line (answer_of answer))) }

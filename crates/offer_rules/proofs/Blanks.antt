@@ -2,18 +2,16 @@
 use mathlib.Core.Path.{◌≡◌, refl, ap, ◌∙◌}
 use mathlib.Core.Bool.{Bool, true, false, cond, not, ◌&&◌, true≢false}
 use mathlib.Core.List.{List, [], ◌∷◌, ◌++◌}
-use Prim.Native.Nat.{ℕ, zero, suc, ◌+◌, ◌-◌, ◌*◌, ◌≤◌, ◌<◌, min}
+use Prim.Native.Nat.{ℕ, zero, suc, ◌-◌, ◌≤◌, min}
 use native.Mathlib.Omega.{arith}
 use lib.Dec.{leb}
-use lib.IntN.{ℤ, pos}
-use lib.ListN.{length, take, drop}
+use lib.IntN.{pos}
 use borrow.Author.Tests.{lt-leb, leb-false, not-false}
-use Rattle.offer_rules.specs.Numbers.{eq_z, word, between, draw, ◌then◌}
-use Rattle.offer_rules.specs.Offer.{Pair, pairs_in, pairs, is_blank, all_blank, filled_part, BlanksAfter, BlanksLast, sum_of, any_pair, out_of_range, is_priced_blank, blank_before_filled, blank_refused, non_blank_prices, offer_number, NoneBeforeFilled, TestedBlanksLast}
+use Rattle.offer_rules.specs.Numbers.{between, draw, ◌then◌}
+use Rattle.offer_rules.specs.Offer.{Pair, pairs, is_blank, all_blank, filled_part, BlanksAfter, BlanksLast, sum_of, any_pair, out_of_range, is_priced_blank, blank_before_filled, blank_refused, non_blank_prices, offer_number, NoneBeforeFilled, TestedBlanksLast}
 use Rattle.offer_rules.specs.Gate.{Grounds, tenths_of, total_tenths, price_of_tenth, same_prices_to, same_prices, is_excepted}
 use Rattle.offer_rules.proofs.Drawn.{and_left, and_right, or_left, or_right}
 use Rattle.offer_rules.proofs.Ranges.{same_word}
-use Rattle.offer_rules.proofs.Pairs.{pair_at, pairs_from, no_pairs_from}
 
 -- ---- what 12 leaves
 
@@ -150,55 +148,3 @@ first_tells x l h = go (is_blank x) refl h
     go : (t : Bool) → is_blank x ≡ t → BlanksAfter (cond t [] (x ∷ filled_part l)) (x ∷ l) → (t && all_blank l) ≡ t
     go true e k = and_right (is_blank x) (all_blank l) (ap all_blank k.followed ∙ k.only_blanks)
     go false e k = refl
-
--- Among the words of an offer's pairs, the filled part is as many as it counts.
-pub part_lent : (ws : List ℤ) → pairs_in (take (2 * length (filled_part (pairs_in ws))) ws) ≡ filled_part (pairs_in ws)
-unfolding pairs_in filled_part
-part_lent [] = refl
-part_lent (p ∷ []) = refl
-part_lent (p ∷ (q ∷ ws)) = go (is_blank x) (part_lent ws)
-  where
-    x : Pair
-    x = record { price = p; quantity = q }
-
-    go : (t : Bool) → pairs_in (take (2 * length (filled_part (pairs_in ws))) ws) ≡ filled_part (pairs_in ws)
-        → pairs_in (take (2 * length (cond t [] (x ∷ filled_part (pairs_in ws)))) (p ∷ (q ∷ ws))) ≡ cond t [] (x ∷ filled_part (pairs_in ws))
-    go true k = refl
-    go false k =
-        let n = length (filled_part (pairs_in ws)) in
-        let e : 2 * suc n ≡ suc (suc (2 * n)) = omega arith in
-        rw e (ap (λ (l : List Pair). x ∷ l) k)
-
--- The pairs before pair n and those from it on.
-split_at : (n : ℕ) (ws : List ℤ) → pairs_in ws ≡ pairs_in (take (2 * n) ws) ++ pairs_in (drop (2 * n) ws)
-unfolding pairs_in
-split_at zero ws = refl
-split_at (suc n) [] = let e : 2 * suc n ≡ suc (suc (2 * n)) = omega arith in rw e
-split_at (suc n) (p ∷ []) = let e : 2 * suc n ≡ suc (suc (2 * n)) = omega arith in rw e
-split_at (suc n) (p ∷ (q ∷ ws)) = let e : 2 * suc n ≡ suc (suc (2 * n)) = omega arith in rw e (ap (λ (l : List Pair). record { price = p; quantity = q } ∷ l) (split_at n ws))
-
-pub blanks_from : (n : ℕ) (ws : List ℤ) → all_blank (pairs_in (drop (2 * n) ws)) ≡ true → BlanksAfter (pairs_in (take (2 * n) ws)) (pairs_in ws)
-blanks_from n ws h = record { blanks = pairs_in (drop (2 * n) ws); followed = split_at n ws; only_blanks = h }
-
--- The pair before pair n is blank, and so are those from it on.
-pub blank_before : (ws : List ℤ) (n : ℕ) → 1 ≤ n → 2 * n ≤ length ws → eq_z (word ws (2 * n - 1)) (pos 0) ≡ true → all_blank (pairs_in (drop (2 * n) ws)) ≡ true
-    → all_blank (pairs_in (drop (2 * (n - 1)) ws)) ≡ true
-unfolding all_blank is_blank
-blank_before ws n h k e later =
-    let i : n - 1 + 1 ≡ n = omega arith in
-    let j : 2 * (n - 1) + 1 ≡ 2 * n - 1 = omega arith in
-    ap all_blank (pairs_from ws (n - 1) (omega arith)) ∙ rw (i, j, e, later)
-
-pub none_left_blank : (ws : List ℤ) (n : ℕ) → length ws ≤ n + 1 → all_blank (pairs_in (drop n ws)) ≡ true
-unfolding all_blank
-none_left_blank ws n h = ap all_blank (no_pairs_from ws n h)
-
--- The filled part from pair i on, where the pairs before it are filled.
-pub filled_from : (ws : List ℤ) (i : ℕ) → 2 * i + 1 < length ws
-    → filled_part (pairs_in (drop (2 * i) ws)) ≡ cond (eq_z (word ws (2 * i + 1)) (pos 0)) [] (pair_at ws i ∷ filled_part (pairs_in (drop (2 * (i + 1)) ws)))
-unfolding filled_part is_blank
-filled_from ws i h = ap filled_part (pairs_from ws i h)
-
-pub none_left_filled : (ws : List ℤ) (n : ℕ) → length ws ≤ n → filled_part (pairs_in (drop n ws)) ≡ []
-unfolding filled_part
-none_left_filled ws n h = ap filled_part (no_pairs_from ws n (omega arith))

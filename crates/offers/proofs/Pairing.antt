@@ -11,14 +11,6 @@ use Rattle.units.specs.Typed.{typed, pair_of, pair_at}
 use Rattle.units.specs.declared.Pair.{Pair}
 use Rattle.offers.specs.PairTests.{pairs_of}
 
--- the part of an offer from its word 3 on, lent
-pub words_lent : (o : List ℤ) → take (length o - 3) (drop 3 o) ≡ drop 3 o
-words_lent o = take_all (length o - 3) (drop 3 o) (omega (arith, length-drop 3 o))
-
-pub pairs_lent : (o : List ℤ) → pairs_in (take (length o - 3) (drop 3 o)) ≡ pairs o
-unfolding pairs
-pairs_lent o = ap pairs_in (words_lent o)
-
 -- words taken two by two are their pairs
 pub pairs_taken : (ws : List (List ℤ)) (w : List ℤ) → length ws ≡ length w / 2 → ((i : ℕ) → i < length ws → pair_of (typed (get_or ws i [])) ≡ pair_at w i) → pairs_of ws ≡ pairs_in w
 unfolding pairs_in

@@ -1,5 +1,6 @@
 // The opening of a book, refusal 20, and the test that words are a book, refusal 1.
 // Head, facilities and cells are lent on as parts of the book, and each is written from its start to its end.
+// Narrowing stays `as`, proved to lose nothing: a `try_from` would be tested as it runs.
 #![tactic(auto)]
 
 ghost use Rattle.std.specs.Prelude.{◌≡◌, ◌&&◌, ◌+◌, ◌*◌, ◌≤◌, leb, length, drop, is_some, IfSome, IfOk, OnErr};

@@ -1,4 +1,5 @@
 // The two calls that read (8 and 9), on a book that passes 1 by a record that passes 2, 3 and 4: "Calls 8 and 9 write none."
+// Each returns its Answer: a Result of one would be copied, 112 bytes. `nat(..) as usize` loses nothing: of u64 and usize there is no From.
 #![tactic(auto)]
 
 ghost use Rattle.std.specs.Prelude.{◌≡◌, ◌<◌, Some, IfOk};

@@ -1,5 +1,6 @@
 // Document 01, "Who draws which number": 5 to 9, from values that the book hands over.
-// A facility's capability is 17 words W0 to W16.
+// A facility's capability is 17 words W0 to W16. A service stays a number of at most 4, as its mark is at W12 + service.
+// Narrowing stays `as`, proved to lose nothing: a `try_from` would be tested as it runs.
 #![tactic(auto)]
 
 ghost use Rattle.std.specs.Prelude.{◌≡◌, not, ◌&&◌, ◌||◌, ◌≤◌, fold, false};

@@ -63,7 +63,7 @@ pub fn pair_words(words: &[i32]) -> &[[i32; 2]]
     words.as_chunks::<2>().0
 }
 
-// A signed word as a count: 0 where it is negative.
+// A signed word as a count: 0 where it is negative. Through `try_from` it is a branch, and an offer's walk a tenth longer.
 pub fn nat(x: i32) -> u64
     ensures { (result ≡ to_nat x) × (result < 2147483648) }
 {

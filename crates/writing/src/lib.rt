@@ -1,5 +1,6 @@
 // The seven calls that write (1 to 7), on a book that passes 1 by a record that passes 2, 3 and 4.
-// Each is refused and writes nothing, or writes what it files.
+// Each is refused and writes nothing, or writes what it files. The book is the `&mut [i32]` that document 01 names, so what has been tested of it is asked for, in one word a call.
+// Conversions stay `as`, proved to lose nothing: of u64 and usize there is no From, and a `try_from` would be tested as it runs.
 #![tactic(auto)]
 
 ghost use Rattle.std.specs.Prelude.{◌≡◌, true, ◌≤◌, ◌<◌};
