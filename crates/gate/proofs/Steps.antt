@@ -12,7 +12,7 @@ use Rattle.offer_rules.specs.Numbers.{eq_z}
 use Rattle.offer_rules.specs.Offer.{Pair}
 use Rattle.offer_rules.specs.Gate.{tenths_of}
 use Rattle.units.specs.Typed.{typed, pair_of}
-use Rattle.gate.specs.Meaning.{in_pairs}
+use Rattle.units.specs.Typed.{pairs_of}
 use Rattle.gate.specs.Differing.{or_else, first_differing}
 use Rattle.gate.proofs.Runs.{cut, later, pass_shorter, pass_shorter_new, flip, uncut, none_left}
 
@@ -111,7 +111,7 @@ pass_both x y old new i j n e f =
 abbrev pub first_of : List (List ℤ) → Pair
 first_of l = pair_of (typed (get_or l 0 []))
 
-from_first : (l : List (List ℤ)) → 0 < length l → in_pairs l ≡ first_of l ∷ in_pairs (drop 1 l)
+from_first : (l : List (List ℤ)) → 0 < length l → pairs_of l ≡ first_of l ∷ pairs_of (drop 1 l)
 from_first [] h = absurd (omega arith)
 from_first (x ∷ l) h = refl
 
@@ -126,34 +126,34 @@ module _ (old new : List (List ℤ)) (i j n : ℕ) where
   first_differ = differ left_old left_new (eq_z (first_of old).price (first_of new).price)
 
   abbrev pub answer : ℕ
-  answer = first_from (in_pairs old) i (in_pairs new) j n
+  answer = first_from (pairs_of old) i (pairs_of new) j n
 
   module _ (ho : 0 < length old) (hn : 0 < length new) where
     pub differing : first_differ ≡ true → answer ≡ n + 1
     differing f =
         rw (from_first old ho, from_first new hn)
-        (difference_is_answer (first_of old) (first_of new) (in_pairs (drop 1 old)) (in_pairs (drop 1 new)) i j n f)
+        (difference_is_answer (first_of old) (first_of new) (pairs_of (drop 1 old)) (pairs_of (drop 1 new)) i j n f)
 
     module _ (f : first_differ ≡ false) where
-      pub past_old : left_old ≤ left_new → first_from (in_pairs (drop 1 old)) 0 (in_pairs new) (j + left_old) (n + left_old) ≡ answer
+      pub past_old : left_old ≤ left_new → first_from (pairs_of (drop 1 old)) 0 (pairs_of new) (j + left_old) (n + left_old) ≡ answer
       past_old h =
           rw (from_first old ho, from_first new hn)
-          (pass_old (first_of old) (first_of new) (in_pairs (drop 1 old)) (in_pairs (drop 1 new)) i j n h f)
+          (pass_old (first_of old) (first_of new) (pairs_of (drop 1 old)) (pairs_of (drop 1 new)) i j n h f)
 
-      pub past_new : left_new ≤ left_old → first_from (in_pairs old) (i + left_new) (in_pairs (drop 1 new)) 0 (n + left_new) ≡ answer
+      pub past_new : left_new ≤ left_old → first_from (pairs_of old) (i + left_new) (pairs_of (drop 1 new)) 0 (n + left_new) ≡ answer
       past_new h =
           rw (from_first old ho, from_first new hn)
-          (pass_new (first_of old) (first_of new) (in_pairs (drop 1 old)) (in_pairs (drop 1 new)) i j n h f)
+          (pass_new (first_of old) (first_of new) (pairs_of (drop 1 old)) (pairs_of (drop 1 new)) i j n h f)
 
-      pub past_both : left_old ≡ left_new → first_from (in_pairs (drop 1 old)) 0 (in_pairs (drop 1 new)) 0 (n + left_old) ≡ answer
+      pub past_both : left_old ≡ left_new → first_from (pairs_of (drop 1 old)) 0 (pairs_of (drop 1 new)) 0 (n + left_old) ≡ answer
       past_both e =
           rw (from_first old ho, from_first new hn)
-          (pass_both (first_of old) (first_of new) (in_pairs (drop 1 old)) (in_pairs (drop 1 new)) i j n e f)
+          (pass_both (first_of old) (first_of new) (pairs_of (drop 1 old)) (pairs_of (drop 1 new)) i j n e f)
 
 pub old_ended : (old new : List (List ℤ)) (i j n : ℕ) → length old < 1 → answer old new i j n ≡ 0
-old_ended [] new i j n h = old_at_end i (in_pairs new) j n
+old_ended [] new i j n h = old_at_end i (pairs_of new) j n
 old_ended (x ∷ old) new i j n h = absurd (omega arith)
 
 pub new_ended : (old new : List (List ℤ)) (i j n : ℕ) → length new < 1 → answer old new i j n ≡ 0
-new_ended old [] i j n h = new_at_end (in_pairs old) i j n
+new_ended old [] i j n h = new_at_end (pairs_of old) i j n
 new_ended old (y ∷ new) i j n h = absurd (omega arith)

@@ -1,9 +1,8 @@
 -- The declared structs as the rule's records, and words as pairs.
 -- "first and last period" of a window are its two words; a facility's kind is its word.
-use Rattle.std.specs.Prelude.{◌≤◌, List, ℤ, map, length}
-use Rattle.offer_rules.specs.Offer.{Pair, pairs_in, BlanksLast}
+use Rattle.std.specs.Prelude.{◌≤◌, List, ℤ, length}
+use Rattle.offer_rules.specs.Offer.{pairs_in, BlanksLast}
 use Rattle.offer_rules.specs.Gate as rule
-use Rattle.units.specs.Typed.{typed, pair_of}
 use Rattle.gate.specs.declared.Window.{Window}
 use Rattle.gate.specs.declared.Grounds.{Grounds}
 use Rattle.gate.specs.declared.Offer.{Offer}
@@ -20,10 +19,6 @@ grounds_of g = record {
   shortfall = window_of g.shortfall;
   status = window_of g.status;
 }
-
--- Words, two by two, as pairs.
-abbrev pub in_pairs : List (List ℤ) → List Pair
-in_pairs l = map (λ words. pair_of (typed words)) l
 
 -- An offer's words, and what is asked of them: of a filed one that its blanks come last, of a held one no more than ten pairs.
 abbrev pub words_of : Offer → List ℤ

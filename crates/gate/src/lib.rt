@@ -8,7 +8,8 @@ ghost use Rattle.offer_rules.specs.Offer.{pairs_in, all_blank, filled_part, Blan
 ghost use Rattle.offer_rules.specs.Gate.{tenths_of, total_tenths, same_prices, covers, is_open, admits_service, period_covered, total_moved, is_excepted};
 ghost use Rattle.units.specs.Typed.{typed, pair_of};
 ghost use Rattle.gate.specs.Differing.{first_differing, tenth_or_none};
-ghost use Rattle.gate.specs.Meaning.{window_of, grounds_of, in_pairs, words_of, IsLent};
+ghost use Rattle.gate.specs.Meaning.{window_of, grounds_of, words_of, IsLent};
+ghost use Rattle.units.specs.Typed.{pairs_of};
 
 use kinds::admits;
 use layout::{facility, time};
@@ -71,7 +72,7 @@ struct Walk<'a> {
 
 // How many pairs stand before the first blank.
 fn filled_count(pairs: &[[i32; 2]]) -> usize
-    ensures { (result ≡ length (filled_part (in_pairs pairs.now))) × (result ≤ length pairs.now) }
+    ensures { (result ≡ length (filled_part (pairs_of pairs.now))) × (result ≤ length pairs.now) }
 {
     pairs
         .iter()
@@ -81,7 +82,7 @@ fn filled_count(pairs: &[[i32; 2]]) -> usize
 
 // How many pairs there are up to the last that isn't blank.
 fn count_to_last(pairs: &[[i32; 2]]) -> usize
-    ensures { (result ≤ length pairs.now) × (all_blank (in_pairs (drop result pairs.now)) ≡ true) }
+    ensures { (result ≤ length pairs.now) × (all_blank (pairs_of (drop result pairs.now)) ≡ true) }
 {
     pairs
         .iter()
@@ -92,7 +93,7 @@ fn count_to_last(pairs: &[[i32; 2]]) -> usize
 // Of a filed offer the pairs before its first blank, since "all non-blank pairs come first".
 fn filed_walk(words: &[i32; 20]) -> Walk<'_>
     requires { BlanksLast (pairs_in words.now) }
-    ensures { BlanksAfter (in_pairs result.pairs.now) (pairs_in words.now) }
+    ensures { BlanksAfter (pairs_of result.pairs.now) (pairs_in words.now) }
 {
     let pairs = pair_words(words);
     let end = filled_count(pairs);
@@ -104,7 +105,7 @@ fn filed_walk(words: &[i32; 20]) -> Walk<'_>
 // A held offer "is still walked to its last pair", whatever blanks stand before that; those after it hold no tenths.
 fn held_walk(words: &[i32]) -> Walk<'_>
     requires { length words.now ≤ 20 }
-    ensures { BlanksAfter (in_pairs result.pairs.now) (pairs_in words.now) }
+    ensures { BlanksAfter (pairs_of result.pairs.now) (pairs_in words.now) }
 {
     let pairs = pair_words(words);
     let end = count_to_last(pairs);
@@ -116,7 +117,7 @@ fn held_walk(words: &[i32]) -> Walk<'_>
 impl<'a> Offer<'a> {
     fn walk(self) -> Walk<'a>
         requires { IsLent self }
-        ensures { BlanksAfter (in_pairs result.pairs.now) (pairs_in (words_of self.entry)) }
+        ensures { BlanksAfter (pairs_of result.pairs.now) (pairs_in (words_of self.entry)) }
     {
         match self {
             Offer::Filed(words) => filed_walk(words),
@@ -145,7 +146,7 @@ fn differ(x: Pair, a: u64, y: Pair, b: u64) -> bool
 impl Walk<'_> {
     #[tactic(auto, using(crate::proofs::Words::total_from, crate::proofs::Words::total_at_end))]
     fn total_tenths(self) -> u64
-        ensures { (result ≡ total_tenths (in_pairs self.entry.pairs.now)) × (result ≤ 21474836480) }
+        ensures { (result ≡ total_tenths (pairs_of self.entry.pairs.now)) × (result ≤ 21474836480) }
     {
         let mut total = 0;
         for words in self.pairs {
@@ -159,7 +160,7 @@ impl Walk<'_> {
     // in as many steps as it has pairs.
     #[tactic(auto, using(crate::proofs::Steps::old_ended, crate::proofs::Steps::new_ended))]
     fn first_differing_tenth(self, new: Walk) -> Option<u64>
-        ensures { result ≡ tenth_or_none (first_differing (in_pairs self.entry.pairs.now) (in_pairs new.entry.pairs.now)) }
+        ensures { result ≡ tenth_or_none (first_differing (pairs_of self.entry.pairs.now) (pairs_of new.entry.pairs.now)) }
     {
         let (mut old, mut old_used) = (self.pairs, 0);
         let (mut new, mut new_used) = (new.pairs, 0);
@@ -190,7 +191,7 @@ impl Walk<'_> {
     // "for every n from 1 to the smaller total, the n-th tenth .. has the same price in old and new"
     #[tactic(auto, using(crate::proofs::Runs::found_where_prices_differ))]
     fn same_prices(self, new: Walk) -> bool
-        ensures { result ≡ same_prices (in_pairs self.entry.pairs.now) (in_pairs new.entry.pairs.now) }
+        ensures { result ≡ same_prices (pairs_of self.entry.pairs.now) (pairs_of new.entry.pairs.now) }
     {
         self.first_differing_tenth(new).is_none()
     }
@@ -227,7 +228,7 @@ fn is_period_covered(g: Grounds, filing: Filing) -> bool
 // What it asks of the totals of old and new, for which every pair that is walked is read.
 #[tactic(auto, unfolding(offer_rules::specs::Gate::total_moved))]
 fn is_total_moved(reason: u8, old: Walk, new: Walk) -> bool
-    ensures { result ≡ total_moved reason (total_tenths (in_pairs old.entry.pairs.now)) (total_tenths (in_pairs new.entry.pairs.now)) }
+    ensures { result ≡ total_moved reason (total_tenths (pairs_of old.entry.pairs.now)) (total_tenths (pairs_of new.entry.pairs.now)) }
 {
     match reason {
         3 => new.total_tenths() < old.total_tenths(),

@@ -1,32 +1,13 @@
 -- An offer's words as pairs, and quantities added pair by pair.
-use Rattle.std.proofs.Common.{◌≡◌, refl, sym, ap, ap₂, ◌∙◌, List, [], ◌∷◌, ℕ, suc, ◌+◌, ◌-◌, ◌*◌, ◌/◌, ◌<◌, ◌≤◌, length, get_or, take, drop, length-drop, drop-cons, ℤ, ◌+ℤ◌, add-one, arith}
+use Rattle.std.proofs.Common.{◌≡◌, sym, ap, ◌∙◌, List, [], ◌∷◌, ℕ, ◌+◌, ◌<◌, ◌≤◌, length, get_or, drop, drop-cons, ℤ, ◌+ℤ◌, add-one}
 use Rattle.std.proofs.Math.ListN.{drop_of_length-le}
-use lib.Seq.{take_all}
 use lib.IntN.{+ℤ_assoc, +ℤ_idr}
-use Rattle.offer_rules.specs.Numbers.{word}
 use Rattle.offer_rules.specs.Offer as rule
 use Rattle.offer_rules.specs.Offer.{pairs_in, pairs, is_blank, all_blank, BlanksLast, sum_of}
 use Rattle.offer_rules.proofs.Blanks.{first_tells}
-use Rattle.units.specs.Typed.{typed, pair_of, pair_at}
+use Rattle.units.specs.Typed.{typed, pair_of}
 use Rattle.units.specs.declared.Pair.{Pair}
-use Rattle.offers.specs.PairTests.{pairs_of}
-
--- words taken two by two are their pairs
-pub pairs_taken : (ws : List (List ℤ)) (w : List ℤ) → length ws ≡ length w / 2 → ((i : ℕ) → i < length ws → pair_of (typed (get_or ws i [])) ≡ pair_at w i) → pairs_of ws ≡ pairs_in w
-unfolding pairs_in
-pairs_taken [] [] n each = refl
-pairs_taken [] (p ∷ []) n each = refl
-pairs_taken [] (p ∷ (q ∷ w)) n each = absurd (omega arith)
-pairs_taken (x ∷ ws) [] n each = absurd (omega arith)
-pairs_taken (x ∷ ws) (p ∷ []) n each = absurd (omega arith)
-pairs_taken (x ∷ ws) (p ∷ (q ∷ w)) n each =
-    ap₂ (λ (y : rule.Pair) (l : List rule.Pair). y ∷ l) (each 0 (omega arith)) (pairs_taken ws w (omega arith) (λ i h. each (suc i) (omega arith) ∙ later i))
-  where
-    later : (i : ℕ) → pair_at (p ∷ (q ∷ w)) (suc i) ≡ pair_at w i
-    later i =
-        let e : 2 * suc i ≡ suc (suc (2 * i)) = omega arith in
-        let f : 2 * suc i + 1 ≡ suc (suc (2 * i + 1)) = omega arith in
-        ap₂ (λ (m n : ℕ). record { price = word (p ∷ (q ∷ w)) m; quantity = word (p ∷ (q ∷ w)) n }) e f
+use Rattle.units.specs.Typed.{pairs_of}
 
 -- pair i and those after it
 pub pair_next : (ws : List (List ℤ)) (i : ℕ) → i < length ws → pairs_of (drop i ws) ≡ pair_of (typed (get_or ws i [])) ∷ pairs_of (drop (i + 1) ws)

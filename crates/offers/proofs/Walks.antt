@@ -23,7 +23,8 @@ use Rattle.units.specs.declared.Quantity.{Quantity}
 use Rattle.units.proofs.Adding.{abs_add}
 use Rattle.offers.specs.declared.walk.Findings.{Findings}
 use Rattle.offers.proofs.Pairing.{pair_next}
-use Rattle.offers.specs.PairTests.{pairs_of, blank, pair_is_out, no_pair, is_empty, all_empty, still_rises, with_filled, none_yet, found_from, pairs_number, used_pairs, UsesFive}
+use Rattle.offers.specs.PairTests.{blank, pair_is_out, no_pair, is_empty, all_empty, still_rises, with_filled, none_yet, found_from, pairs_number, used_pairs, UsesFive}
+use Rattle.units.specs.Typed.{pairs_of}
 
 pub total_grows : (f : Findings) (p : Price) (q : Quantity) → nat_abs (with_filled f p q).total.0 ≤ nat_abs f.total.0 + nat_abs q.0
 unfolding with_filled

@@ -1,19 +1,15 @@
 -- The tests of a pair over typed prices and quantities, and what a walk through the pairs finds up to the first blank.
 -- proofs/Walks shows that what it finds, and what is tested of the pairs after it, gives refusals 11 to 13.
-use Rattle.std.specs.Prelude.{◌≡◌, Bool, true, false, not, cond, ◌&&◌, List, [], ◌∷◌, map, ℕ, ◌+◌, eqb, ℤ, pos, ◌+ℤ◌, drop, Option, Some, None, Result, Ok, Err}
+use Rattle.std.specs.Prelude.{◌≡◌, Bool, true, false, not, cond, ◌&&◌, List, [], ◌∷◌, ℕ, ◌+◌, eqb, ℤ, pos, ◌+ℤ◌, drop, Option, Some, None, Result, Ok, Err}
 use Rattle.std.specs.Int.Signed.{lt_z}
 use Rattle.offer_rules.specs.Numbers.{eq_z, any_beyond, draw, ◌then◌}
 use Rattle.offer_rules.specs.Offer.{Pair, any_pair, pair_beyond, blank_refused, non_blank_prices, rises}
 use Rattle.layout.specs.declared.refusal.Refusal.{Refusal}
 use Rattle.layout.specs.declared.refusal.Refusal.TheVariants.{OutOfRange}
-use Rattle.units.specs.Typed.{price_of, quantity_of, typed, pair_of}
+use Rattle.units.specs.Typed.{price_of, quantity_of}
 use Rattle.units.specs.declared.Price.{Price}
 use Rattle.units.specs.declared.Quantity.{Quantity}
 use Rattle.offers.specs.declared.walk.Findings.{Findings}
-
--- Pairs two words each, as the rule's.
-abbrev pub pairs_of : List (List ℤ) → List Pair
-pairs_of = map (λ words. pair_of (typed words))
 
 abbrev pub blank : Quantity → Bool
 blank q = eq_z q.0 (pos 0)

@@ -2,7 +2,8 @@
 ghost use Rattle.std.specs.Prelude.{◌≡◌, true, cond, not, ◌&&◌, ◌≤◌, eqb, length, drop, IfOk};
 ghost use Rattle.layout.specs.Refusal.{number, drawn};
 ghost use Rattle.offer_rules.specs.Offer.{pairs, BlanksLast, sum_of, any_pair};
-ghost use Rattle.offers.specs.PairTests.{pairs_of, no_pair, all_empty, pair_is_out, found_in, pairs_number, used_pairs, UsesFive};
+ghost use Rattle.offers.specs.PairTests.{no_pair, all_empty, pair_is_out, found_in, pairs_number, used_pairs, UsesFive};
+ghost use Rattle.units.specs.Typed.{pairs_of};
 
 use crate::limits::PriceLimits;
 use crate::pairs::{is_empty, pairs};

@@ -2,18 +2,18 @@
 // Prices and quantities have types of their own, so that neither is taken for the other.
 ghost use Rattle.std.specs.Prelude.{◌≡◌, ◌≤◌, nat_abs, length};
 ghost use Rattle.offer_rules.specs.Offer.{pairs_in, pairs, all_blank, BlanksLast, sum_of};
-ghost use Rattle.offers.specs.PairTests.{pairs_of, is_empty};
+ghost use Rattle.offers.specs.PairTests.{is_empty};
+ghost use Rattle.units.specs.Typed.{pairs_of};
 
 use crate::sum::Sum;
 use units::{Pair, pair_words};
 
 // ---- pairs, two words each
 
-#[tactic(auto, using(crate::proofs::Pairing::pairs_taken))]
 fn ten_pairs(words: &[i32; 20]) -> &[[i32; 2]; 10]
     ensures { (pairs_of result.now ≡ pairs_in words.now) × (length result.now ≡ 10) }
 {
-    pair_words(words).first_chunk::<10>().unwrap()
+    pair_words(words).as_array().unwrap()
 }
 
 #[tactic(auto, unfolding(offer_rules::specs::Offer::pairs))]

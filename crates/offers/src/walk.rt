@@ -1,6 +1,7 @@
 // What a walk through an offer's pairs finds up to the first blank.
 ghost use Rattle.std.specs.Prelude.{◌≡◌, ◌+◌, ◌*◌, ◌≤◌, nat_abs, length, IfOk};
-ghost use Rattle.offers.specs.PairTests.{pairs_of, still_rises, with_filled, found_from};
+ghost use Rattle.offers.specs.PairTests.{still_rises, with_filled, found_from};
+ghost use Rattle.units.specs.Typed.{pairs_of};
 
 use crate::limits::PriceLimits;
 use crate::sum::Sum;

@@ -3,8 +3,8 @@
 
 ghost use Rattle.std.specs.Prelude.{◌≡◌, ℕ, [], ◌/◌, ◌<◌, length, slice_index_or, false, ◌||◌, fold};
 ghost use Rattle.offer_rules.specs.Numbers.{to_nat, beyond, any_beyond};
-ghost use Rattle.offer_rules.specs.Offer.{is_blank};
-ghost use Rattle.units.specs.Typed.{pair_of, typed, pair_at};
+ghost use Rattle.offer_rules.specs.Offer.{is_blank, pairs_in};
+ghost use Rattle.units.specs.Typed.{pair_of, pairs_of, typed};
 
 // Whole cents per MWh.
 #[derive(Clone, Copy, Debug, PartialEq, Eq, PartialOrd, Ord)]
@@ -55,10 +55,9 @@ impl Pair {
 }
 
 // The words of an offer's pairs, two by two.
-#[tactic(auto, using(crate::proofs::Chunks::chunk_of_two))]
 pub fn pair_words(words: &[i32]) -> &[[i32; 2]]
     ensures count { length result.now ≡ length words.now / 2 }
-    ensures each { (i : ℕ) → i < length result.now → pair_of (typed (slice_index_or result.now i [])) ≡ pair_at words.now i }
+    ensures pairs { pairs_of result.now ≡ pairs_in words.now }
 {
     words.as_chunks::<2>().0
 }

@@ -1,7 +1,6 @@
 use Rattle.std.proofs.Common.{◌≡◌, length}
-use Rattle.offer_rules.specs.Offer.{pairs_in, filled_part}
-use Rattle.gate.specs.Meaning.{in_pairs}
-use Rattle.gate.proofs.Words.{two_by_two}
+use Rattle.offer_rules.specs.Offer.{filled_part}
+use Rattle.units.specs.Typed.{pairs_of}
 use Rattle.gate.proofs.Blanks.{part_lent}
 use Rattle.gate.proofs.filed_walk.Goals as goal
 
@@ -9,6 +8,5 @@ use Rattle.gate.proofs.filed_walk.Goals as goal
 pub returns : goal.returns
 returns c =
     let l = c.pair_words-pairs.result.now in
-    let e : in_pairs l ≡ pairs_in c.args.words.now = two_by_two c.args.words.now l c.pair_words-pairs.ensures.count c.pair_words-pairs.ensures.each in
-    let n : c.filled_count-end.result ≡ length (filled_part (in_pairs l)) = c.filled_count-end.ensures.0 in
-    rw (n, part_lent l, e) c.requires
+    let n : c.filled_count-end.result ≡ length (filled_part (pairs_of l)) = c.filled_count-end.ensures.0 in
+    rw (n, part_lent l, c.pair_words-pairs.ensures.pairs) c.requires

@@ -1,13 +1,13 @@
 use Rattle.std.proofs.Common.{◌≡◌, ◌<◌, ◌+◌, ◌-◌, true, false, ap, sym, length, ◌∙◌, rules, arith, add-one, take, drop, length-drop}
 use Rattle.gate.specs.Differing.{tenth_or_none}
-use Rattle.gate.specs.Meaning.{in_pairs}
+use Rattle.units.specs.Typed.{pairs_of}
 use Rattle.gate.proofs.Steps.{start_is_whole, left_old, left_new, first_differ, differing, past_old, past_new, past_both}
 use Rattle.std.proofs.lemmas.Grind.{common_steps}
 use Rattle.gate.proofs.Walk.first_differing_tenth.Goals as goal
 use Rattle.gate.proofs.Walk.first_differing_tenth.Goals.{then-a-b, else-a-b+then-a-b-2, else-a-b+else-a-b-2}
 
 pub loop-old-init : goal.loop-old-init
-loop-old-init c = (omega arith, omega arith, omega arith, start_is_whole (in_pairs c.args.self.pairs.now) (in_pairs c.args.new.pairs.now))
+loop-old-init c = (omega arith, omega arith, omega arith, start_is_whole (pairs_of c.args.self.pairs.now) (pairs_of c.args.new.pairs.now))
 
 pub returns-then-differ : goal.returns-then-differ
 returns-then-differ c =

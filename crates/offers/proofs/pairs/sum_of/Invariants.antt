@@ -1,6 +1,6 @@
 use Rattle.std.proofs.Common.{◌≡◌, ◌*◌, ◌≤◌, nat_abs, ◌+ℤ◌, drop}
 use Rattle.offer_rules.specs.Offer.{sum_of}
-use Rattle.offers.specs.PairTests.{pairs_of}
+use Rattle.units.specs.Typed.{pairs_of}
 use Rattle.offers.proofs.pairs.sum_of.Given as goal
 
 -- The total so far, and what is left to be added to it.

@@ -2,7 +2,8 @@ use Rattle.std.proofs.Common.{arith, rules, sym, ap, ◌≡◌, ◌∙◌, ◌+�
 use mir.Syntax.{w32}
 use mir.Val.{SFits}
 use lib.Signed.{nat_abs-le}
-use Rattle.offers.specs.PairTests.{pairs_of, with_filled, found_from}
+use Rattle.offers.specs.PairTests.{with_filled, found_from}
+use Rattle.units.specs.Typed.{pairs_of}
 use Rattle.offers.proofs.Walks.{none_left, ends_here, stops_here, goes_on_here, total_grows}
 use Rattle.offers.proofs.walk.walk.Goals as goal
 

@@ -1,5 +1,6 @@
 use Rattle.std.proofs.Common.{◌≡◌, ◌+◌, ◌*◌, ◌≤◌, nat_abs, drop}
-use Rattle.offers.specs.PairTests.{pairs_of, found_from}
+use Rattle.offers.specs.PairTests.{found_from}
+use Rattle.units.specs.Typed.{pairs_of}
 use Rattle.offers.proofs.walk.walk.Given as goal
 
 -- Pair by pair, what is left to be found stays the same.

@@ -2,7 +2,8 @@ use Rattle.std.proofs.Common.{rules, arith, ap, sym, ◌≡◌, ◌∙◌, ◌�
 use Rattle.std.proofs.lemmas.Result.{IfOk-weaker}
 use lib.Seq.{take_all}
 use Rattle.offer_rules.specs.Offer.{pairs}
-use Rattle.offers.specs.PairTests.{pairs_of, found_from}
+use Rattle.offers.specs.PairTests.{found_from}
+use Rattle.units.specs.Typed.{pairs_of}
 use Rattle.offers.proofs.Walks.{five_end, five_stop, five_pass, five_suffice, used_counted}
 use Rattle.offers.proofs.filed.Filed.findings.Goals as goal
 use Rattle.offers.proofs.filed.Filed.findings.Goals.{then-five-lt5-via-then-five-lt5, then-five-lt5-via-else-five-lt5+then-do_five_suffice}
