@@ -3,7 +3,7 @@ ghost use Rattle.std.specs.Prelude.{◌≡◌, ◌+◌, ◌≤◌, ◌<◌};
 ghost use Rattle.book_rules.specs.Words.{book_size, cell_place};
 ghost use Rattle.cells.specs.Meaning.{half_number};
 
-use layout::{cell, facility, head};
+use layout::{Slot, cell, facility, head};
 
 // "h 0 standing, 1 variation"
 #[derive(Clone, Copy, Debug, PartialEq, Eq)]
@@ -25,20 +25,20 @@ pub struct CellPlace {
     pub f: usize,
     pub s: usize,
     pub half: Half,
-    pub slot: usize,
+    pub slot: Slot,
 }
 
 impl CellPlace {
     // "numbered ((f·S + s)·2 + h)·336 + slot": added up by services, so that the two cells of a slot lie a constant apart in a total's loop.
     #[tactic(auto, unfolding(book_rules::specs::Words::cell_place))]
     pub(crate) fn start(self, facilities: usize, services: usize) -> usize
-        requires { (facilities ≤ 64) × (services ≤ 5) × (self.f < facilities) × (self.s < services) × (self.slot < 336) }
-        ensures place { result ≡ cell_place facilities services self.f self.s (half_number self.half) self.slot }
+        requires { (facilities ≤ 64) × (services ≤ 5) × (self.f < facilities) × (self.s < services) }
+        ensures place { result ≡ cell_place facilities services self.f self.s (half_number self.half) self.slot.number }
         ensures room { result + 24 ≤ book_size facilities services }
     {
         head::WORDS
             + facility::WORDS * facilities
             + cell::SERVICE_WORDS * (self.f * services + self.s)
-            + cell::WORDS * (self.half.number() * cell::SLOTS + self.slot)
+            + cell::WORDS * (self.half.number() * cell::SLOTS + self.slot.number)
     }
 }

@@ -43,8 +43,8 @@ pub fn store_offer(
     place: CellPlace,
     filing: Filing<'_>,
 )
-    requires { Sized book.old facilities services × (place.f < facilities) × (place.s < services) × (place.slot < 336) }
-    ensures { book.new ≡ put book.old (cell_place facilities services place.f place.s (half_number place.half) place.slot) (cell filing.entry.stamp (accepted_at filing.entry.minute filing.entry.offer.now)) }
+    requires { Sized book.old facilities services × (place.f < facilities) × (place.s < services) }
+    ensures { book.new ≡ put book.old (cell_place facilities services place.f place.s (half_number place.half) place.slot.number) (cell filing.entry.stamp (accepted_at filing.entry.minute filing.entry.offer.now)) }
 {
     let at = place.start(facilities, services);
     let end = at + cell::WORDS;

@@ -9,7 +9,7 @@ use crate::answers::Answer;
 use crate::held::Cell;
 use crate::in_force::{InForce, Tally};
 use crate::places::{CellPlace, Half};
-use layout::cell;
+use layout::{Slot, cell};
 
 // A book's words, and F and S as they hold them.
 // f and s stay parameters: a total counts through f, and what has both has tested them.
@@ -26,8 +26,8 @@ impl<'a> Cells<'a> {
 
     #[tactic(auto, using(std::proofs::lemmas::List::take_rest), unfolding(book_rules::specs::Words::part))]
     fn cell(&self, place: CellPlace) -> Cell<'a>
-        requires { (place.f < self.now.facilities) × (place.s < self.now.services) × (place.slot < 336) }
-        ensures { result.words.now ≡ cell_in self.now.words.now place.f place.s (half_number place.half) place.slot }
+        requires { (place.f < self.now.facilities) × (place.s < self.now.services) }
+        ensures { result.words.now ≡ cell_in self.now.words.now place.f place.s (half_number place.half) place.slot.number }
     {
         let at = place.start(self.facilities, self.services);
         Cell {
@@ -38,8 +38,8 @@ impl<'a> Cells<'a> {
     // The cell, where it has this stamp.
     #[tactic(auto, unfolding(book_rules::specs::Book::held))]
     fn held(&self, place: CellPlace, stamp: u32) -> Option<Cell<'a>>
-        requires { (place.f < self.now.facilities) × (place.s < self.now.services) × (place.slot < 336) × (stamp < 2147483648) }
-        ensures { held_in result ≡ held stamp (cell_in self.now.words.now place.f place.s (half_number place.half) place.slot) }
+        requires { (place.f < self.now.facilities) × (place.s < self.now.services) × (stamp < 2147483648) }
+        ensures { held_in result ≡ held stamp (cell_in self.now.words.now place.f place.s (half_number place.half) place.slot.number) }
     {
         let cell = self.cell(place);
         cell.is_stamped(stamp).then_some(cell)
@@ -47,9 +47,9 @@ impl<'a> Cells<'a> {
 
     // "else the standing cell if its stamp is 1, else none"
     #[tactic(auto, unfolding(book_rules::specs::Book::book_view))]
-    pub fn held_standing(&self, f: usize, s: usize, slot: usize) -> Option<Cell<'a>>
-        requires { (f < self.now.facilities) × (s < self.now.services) × (slot < 336) }
-        ensures { held_in result ≡ (book_view self.now.words.now).standing f s slot }
+    pub fn held_standing(&self, f: usize, s: usize, slot: Slot) -> Option<Cell<'a>>
+        requires { (f < self.now.facilities) × (s < self.now.services) }
+        ensures { held_in result ≡ (book_view self.now.words.now).standing f s slot.number }
     {
         let half = Half::Standing;
         self.held(CellPlace { f, s, half, slot }, cell::STANDING_STAMP)
@@ -62,7 +62,7 @@ impl<'a> Cells<'a> {
         ensures { meaning result ≡ in_force (book_view self.now.words.now) f s period }
     {
         let half = Half::Variation;
-        let slot = period % cell::SLOTS;
+        let slot = Slot::of(period);
         let stamp = (period + 1) as u32;
         match self.held(CellPlace { f, s, half, slot }, stamp) {
             Some(cell) => Some(InForce::Variation(cell)),

@@ -18,7 +18,7 @@ use crate::filed::Passed;
 use crate::in_book::Facility;
 use cells::Cell;
 use gate::{Filing, Offer};
-use layout::{Refusal, cell, offer, refuse_if};
+use layout::{Refusal, Slot, offer, refuse_if};
 
 #[derive(Clone, Copy)]
 pub struct Series<'a> {
@@ -81,7 +81,7 @@ impl<'a> Series<'a> {
             return Offer::Filed(filed.pairs());
         }
         let cells = self.facility.book.cells();
-        let slot = period % cell::SLOTS;
+        let slot = Slot::of(period);
         match cells.held_standing(self.facility.f, usize::from(self.service), slot) {
             Some(held) => Offer::Held(held.pairs()),
             None => Offer::Held(&[]),
@@ -115,12 +115,11 @@ impl<'a> Series<'a> {
     #[tactic(auto, using(crate::proofs::Stages::open_draws_none, offer_rules::proofs::Blanks::none_before), unfolding(offer_rules::specs::Offer::pairs))]
     fn check_standing_gate(
         &self,
-        slot: usize,
+        slot: Slot,
         held: Cell<'_>,
         filed: Passed<'_>,
     ) -> Result<(), Refusal>
-        requires { slot < 336 }
-        ensures number { drawn result ≡ gate_number (to_nat (word self.now.facility.book.words.now clock_place)) (grounds (book_view self.now.facility.book.words.now) self.now.facility.f) self.now.service (next_period (to_nat (word self.now.facility.book.words.now clock_place)) slot) filed.entry.reason (pairs (held_by held.entry).offer) (pairs filed.entry.offer.now) }
+        ensures number { drawn result ≡ gate_number (to_nat (word self.now.facility.book.words.now clock_place)) (grounds (book_view self.now.facility.book.words.now) self.now.facility.f) self.now.service (next_period (to_nat (word self.now.facility.book.words.now clock_place)) slot.number) filed.entry.reason (pairs (held_by held.entry).offer) (pairs filed.entry.offer.now) }
         ensures bound { drawn result ≤ 17 }
     {
         let next = self.facility.book.next_period(slot);
@@ -139,9 +138,8 @@ impl<'a> Series<'a> {
 
     // 17, then 18 where it is equal to the held one. "A first one always passes the gate."
     #[tactic(auto, using(layout::proofs::Chains::passed_first, layout::proofs::Chains::refused_first, layout::proofs::Chains::draw_most), unfolding(book_rules::specs::Refusals::revision_number, book_rules::specs::Refusals::over_held))]
-    fn check_revision(&self, slot: usize, filed: Passed<'_>) -> Result<(), Refusal>
-        requires { slot < 336 }
-        ensures number { drawn result ≡ revision_number (to_nat (word self.now.facility.book.words.now clock_place)) (grounds (book_view self.now.facility.book.words.now) self.now.facility.f) self.now.service slot filed.entry.reason ((book_view self.now.facility.book.words.now).standing self.now.facility.f self.now.service slot) filed.entry.offer.now }
+    fn check_revision(&self, slot: Slot, filed: Passed<'_>) -> Result<(), Refusal>
+        ensures number { drawn result ≡ revision_number (to_nat (word self.now.facility.book.words.now clock_place)) (grounds (book_view self.now.facility.book.words.now) self.now.facility.f) self.now.service slot.number filed.entry.reason ((book_view self.now.facility.book.words.now).standing self.now.facility.f self.now.service slot.number) filed.entry.offer.now }
         ensures bound { drawn result ≤ 18 }
     {
         let cells = self.facility.book.cells();
@@ -157,12 +155,12 @@ impl<'a> Series<'a> {
     #[tactic(auto, using(layout::proofs::Chains::passed_first, layout::proofs::Chains::refused_first, crate::proofs::Stages::no_blank_before), unfolding(book_rules::specs::Refusals::admitted_standing, book_rules::specs::Book::book_view))]
     pub fn check_standing(
         &self,
-        slot: usize,
+        slot: Slot,
         reason: u8,
         offer: &[i32; offer::WORDS],
     ) -> Result<(), Refusal>
-        requires { (slot < 336) × UsesFive self.now.service offer.now }
-        ensures number { drawn result ≡ admitted_standing (book_view self.now.facility.book.words.now) self.now.facility.f self.now.service slot reason offer.now }
+        requires { UsesFive self.now.service offer.now }
+        ensures number { drawn result ≡ admitted_standing (book_view self.now.facility.book.words.now) self.now.facility.f self.now.service slot.number reason offer.now }
         ensures bound { drawn result ≤ 18 }
     {
         self.check_offer(reason, offer)?;

@@ -13,7 +13,7 @@ ghost use Rattle.judging.specs.Usable.{Usable};
 
 use cells::Cells;
 use gate::{Window, is_before_closure};
-use layout::{Refusal, head, refuse_if};
+use layout::{Refusal, Slot, head, refuse_if};
 use offers::is_period_refused;
 use periods::bilzhaan_next_period;
 use units::nat;
@@ -94,11 +94,10 @@ impl<'a> Book<'a> {
 
     // "the slot's next period not yet begun"
     #[tactic(auto, using(offer_rules::proofs::Periods::next_is_near), unfolding(offer_rules::specs::Time::slot_of))]
-    pub(crate) fn next_period(&self, slot: usize) -> usize
-        requires { slot < 336 }
-        ensures { (result ≡ next_period (to_nat (word self.now.words.now clock_place)) slot) × (result < 2147483647) }
+    pub(crate) fn next_period(&self, slot: Slot) -> usize
+        ensures { (result ≡ next_period (to_nat (word self.now.words.now clock_place)) slot.number) × (result < 2147483647) }
     {
-        let next = bilzhaan_next_period(self.clock() as u32, slot as u32);
+        let next = bilzhaan_next_period(self.clock() as u32, slot.number as u32);
         next as usize
     }
 }

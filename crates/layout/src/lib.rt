@@ -12,3 +12,4 @@ pub mod refusal;
 pub mod time;
 
 pub use refusal::{Refusal, drawn, refuse_if};
+pub use time::Slot;

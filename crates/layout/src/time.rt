@@ -1,4 +1,7 @@
 // "Units and time", and the limits of minutes and periods.
+ghost use Rattle.std.specs.Prelude.{◌≡◌, ◌<◌};
+ghost use Rattle.offer_rules.specs.Time.{slot_of};
+
 pub const PERIOD_MINUTES: u64 = 30;
 
 pub const DAY_MINUTES: u64 = 1440;
@@ -9,6 +12,22 @@ pub const DAY_PERIODS: u64 = 48;
 pub const SLOTS: u64 = 336;
 
 pub const LAST_SLOT: i32 = SLOTS as i32 - 1;
+
+#[derive(Clone, Copy, Debug, PartialEq, Eq)]
+pub struct Slot {
+    pub number: usize,
+    pub ghost in_week: { number < 336 },
+}
+
+impl Slot {
+    pub fn of(period: usize) -> Slot
+        ensures { result.number ≡ slot_of period }
+    {
+        Slot {
+            number: period % SLOTS as usize,
+        }
+    }
+}
 
 // "P ≥ 48·(d + 7)"
 pub const HORIZON_DAYS: u64 = 7;

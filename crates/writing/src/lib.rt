@@ -18,7 +18,7 @@ ghost use Rattle.judging.specs.Tested as tested;
 
 use cells::{CellPlace, Filing, Half, store_offer, store_words};
 use judging::{Book, Facility, Passed, Series};
-use layout::{Refusal, cell, facility, fields, head, offer, refuse_if};
+use layout::{Refusal, Slot, cell, facility, fields, head, offer, refuse_if};
 use offers::{is_period_refused, is_slot_refused};
 use record::{Record, capability_in, read_offer, word_at};
 use units::nat;
@@ -70,8 +70,8 @@ pub fn capability_call(book: &mut [i32], bytes: &Record) -> Result<(), Refusal>
 
 // Files an offer in its cell.
 fn file_offer(book: &mut [i32], place: CellPlace, filing: Filing<'_>)
-    requires { Usable book.old × (place.f < facilities_in book.old) × (place.s < services_in book.old) × (place.slot < 336) }
-    ensures { book.new ≡ write_cell book.old place.f place.s (half_number place.half) place.slot (cell filing.entry.stamp (accepted_at filing.entry.minute filing.entry.offer.now)) }
+    requires { Usable book.old × (place.f < facilities_in book.old) × (place.s < services_in book.old) }
+    ensures { book.new ≡ write_cell book.old place.f place.s (half_number place.half) place.slot.number (cell filing.entry.stamp (accepted_at filing.entry.minute filing.entry.offer.now)) }
 {
     let view = Book { words: book };
     let facilities = view.facilities();
@@ -79,9 +79,9 @@ fn file_offer(book: &mut [i32], place: CellPlace, filing: Filing<'_>)
     store_offer(book, facilities, services, place, filing);
 }
 
-fn file_standing(book: &mut [i32], f: usize, s: usize, slot: usize, offer: &[i32; offer::WORDS])
-    requires { Usable book.old × (f < facilities_in book.old) × (s < services_in book.old) × (slot < 336) × (ramps_fit offer.now ≡ true) }
-    ensures { book.new ≡ file_standing book.old f s slot offer.now }
+fn file_standing(book: &mut [i32], f: usize, s: usize, slot: Slot, offer: &[i32; offer::WORDS])
+    requires { Usable book.old × (f < facilities_in book.old) × (s < services_in book.old) × (ramps_fit offer.now ≡ true) }
+    ensures { book.new ≡ file_standing book.old f s slot.number offer.now }
 {
     let filing = Filing {
         stamp: cell::STANDING_STAMP,
@@ -99,7 +99,9 @@ fn stand(book: &mut [i32], bytes: &Record) -> Result<(), Refusal>
 {
     let f = usize::from(bytes[fields::FACILITY]);
     let service = bytes[fields::SERVICE];
-    let slot = nat(word_at(bytes, fields::PERIOD)) as usize;
+    let slot = Slot {
+        number: nat(word_at(bytes, fields::PERIOD)) as usize,
+    };
     let mut offer = [0i32; offer::WORDS];
     read_offer(bytes, &mut offer);
     let facility = Facility {
@@ -135,7 +137,7 @@ fn file_variation(book: &mut [i32], f: usize, s: usize, period: usize, filed: Pa
     ensures { book.new ≡ file_variation book.old f s period filed.entry.offer.now }
 {
     let half = Half::Variation;
-    let slot = period % cell::SLOTS;
+    let slot = Slot::of(period);
     let place = CellPlace { f, s, half, slot };
     let stamp = (period + 1) as u32;
     if filed.is_all_blank() {

@@ -11,21 +11,24 @@ use Rattle.writing.proofs.OfferParts.{standing_parts, offer_uses_five, standing_
 use Rattle.writing.proofs.stand.Goals as goal
 
 -- The slot as a count (count) has passed 10 (slot_in).
+pub invariant_of-slot : goal.invariant_of-slot
+invariant_of-slot c =
+    let b = c.args.bytes.now in
+    let count : c.nat.result ≡ to_nat (period_word b) = c.nat.ensures.0 ∙ ap to_nat (handed_on (sfits_of c.word_at.type_inv) c.word_at.ensures) in
+    let slot_in : to_nat (period_word b) < 336 = (slot_is (period_word b) (admitted _ _ _ c.requires.is_admitted)).1 in
+    record { in_week = omega (arith, count, slot_in) }
+
 pub check_standing-requires : goal.check_standing-requires
 check_standing-requires c =
-    let w = c.args.book.now in
-    let b = c.args.bytes.now in
     let p = c.requires.place in
-    let count : c.nat-slot.result ≡ to_nat (period_word b) = c.nat-slot.ensures.0 ∙ ap to_nat (handed_on (sfits_of c.word_at.type_inv) c.word_at.ensures) in
-    let slot_in : to_nat (period_word b) < 336 = (slot_is (period_word b) (admitted _ _ _ c.requires.is_admitted)).1 in
-    rw (count, c.read_offer.ensures) (slot_in, offer_uses_five w b p.tested (inl p.call_is))
+    rw c.read_offer.ensures (offer_uses_five c.args.book.now c.args.bytes.now p.tested (inl p.call_is))
 
 pub returns-in_err-check_standing : goal.returns-in_err-check_standing
 returns-in_err-check_standing c =
     let w = c.args.book.now in
     let b = c.args.bytes.now in
     let p = c.requires.place in
-    let count : c.nat-slot.result ≡ to_nat (period_word b) = c.nat-slot.ensures.0 ∙ ap to_nat (handed_on (sfits_of c.word_at.type_inv) c.word_at.ensures) in
+    let count : c.nat.result ≡ to_nat (period_word b) = c.nat.ensures.0 ∙ ap to_nat (handed_on (sfits_of c.word_at.type_inv) c.word_at.ensures) in
     let x = c.in_err-check_standing in
     refused_by w b p.tested c.from_residual.result x.field-0.0 c.from_residual.ensures.1
     (by_next _ _ (standing_parts w b p.call_is) (sym c.requires.is_admitted) (rw (c.from-f.ensures, count, c.read_offer.ensures) at x.ensures.number))
@@ -35,18 +38,17 @@ file_standing-requires c =
     let w = c.args.book.now in
     let b = c.args.bytes.now in
     let p = c.requires.place in
-    let count : c.nat-slot.result ≡ to_nat (period_word b) = c.nat-slot.ensures.0 ∙ ap to_nat (handed_on (sfits_of c.word_at.type_inv) c.word_at.ensures) in
-    let slot_in : to_nat (period_word b) < 336 = (slot_is (period_word b) (admitted _ _ _ c.requires.is_admitted)).1 in
+    let count : c.nat.result ≡ to_nat (period_word b) = c.nat.ensures.0 ∙ ap to_nat (handed_on (sfits_of c.word_at.type_inv) c.word_at.ensures) in
     let passed = rw (c.from-f.ensures, count, c.read_offer.ensures) at c.in_ok-check_standing.ensures.number in
-    rw (c.from-f.ensures, c.from.ensures, count, c.read_offer.ensures)
-    (p.tested.usable, p.facility_in, p.service_in, slot_in, standing_ramps w b p.tested p.call_is (to_nat (period_word b)) passed)
+    rw (c.from-f.ensures, c.from.ensures, c.read_offer.ensures)
+    (p.tested.usable, p.facility_in, p.service_in, standing_ramps w b p.tested p.call_is (to_nat (period_word b)) passed)
 
 pub returns : goal.returns
 returns c =
     let w = c.args.book.now in
     let b = c.args.bytes.now in
     let p = c.requires.place in
-    let count : c.nat-slot.result ≡ to_nat (period_word b) = c.nat-slot.ensures.0 ∙ ap to_nat (handed_on (sfits_of c.word_at.type_inv) c.word_at.ensures) in
+    let count : c.nat.result ≡ to_nat (period_word b) = c.nat.ensures.0 ∙ ap to_nat (handed_on (sfits_of c.word_at.type_inv) c.word_at.ensures) in
     let passed = rw (c.from-f.ensures, count, c.read_offer.ensures) at c.in_ok-check_standing.ensures.number in
     filed w b p.tested 3 p.call_is (omega arith) (by_next _ _ (standing_parts w b p.call_is) (sym c.requires.is_admitted) passed)
     c.file_standing.new.book
