@@ -9,7 +9,7 @@ ghost use Rattle.cells.specs.Meaning.{cell_of, meaning, answer_of};
 use crate::answers::Answer;
 use crate::copying::copy_words;
 use crate::held::Cell;
-use layout::{answer, time};
+use layout::{Minute, answer, time};
 
 // By its cell; specs/Meaning says what each case means.
 #[derive(Clone, Copy)]
@@ -20,11 +20,10 @@ pub enum InForce<'a> {
 
 // "while now minus that minute is below 5"; in 64 bits, as a damaged minute may be any word.
 #[tactic(auto, unfolding(offer_rules::specs::Time::is_fresh))]
-fn is_fresh(clock: u64, minute: i32) -> bool
-    requires { clock ≤ 1000000000 }
-    ensures { result ≡ is_fresh clock minute }
+fn is_fresh(clock: Minute, minute: i32) -> bool
+    ensures { result ≡ is_fresh clock.number minute }
 {
-    (clock as i64) - i64::from(minute) < time::SCHEDULE_CUTOFF_MINUTES
+    (clock.number as i64) - i64::from(minute) < time::SCHEDULE_CUTOFF_MINUTES
 }
 
 impl<'a> InForce<'a> {
@@ -46,9 +45,8 @@ impl<'a> InForce<'a> {
 
     // "word 0 is 1 (standing) or 2 (variation)", and "3 for standing and 4 for variation" while it is fresh
     #[tactic(auto, unfolding(book_rules::specs::Force::found_words, book_rules::specs::Force::shown_at))]
-    fn first_word(&self, clock: u64) -> i32
-        requires { clock ≤ 1000000000 }
-        ensures { result ≡ word (found_words clock (meaning (Some self.now))) 0 }
+    fn first_word(&self, clock: Minute) -> i32
+        ensures { result ≡ word (found_words clock.number (meaning (Some self.now))) 0 }
     {
         let fresh = is_fresh(clock, self.cell().terms().minute);
         match self {
@@ -61,9 +59,8 @@ impl<'a> InForce<'a> {
 
     // Word 0, then the offer's words.
     // Words 0 to 3 by themselves, so that the 80 bytes of the pairs stay whole for copies of 16: every answer is copied so.
-    pub fn look_up(&self, clock: u64) -> Answer
-        requires { clock ≤ 1000000000 }
-        ensures { answer_of result ≡ found clock (meaning (Some self.now)) }
+    pub fn look_up(&self, clock: Minute) -> Answer
+        ensures { answer_of result ≡ found clock.number (meaning (Some self.now)) }
     {
         let cell = self.cell();
         let terms = cell.terms();

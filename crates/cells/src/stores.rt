@@ -24,13 +24,13 @@ fn packed_ramps(up: i32, down: i32) -> i32
 fn write_cell(words: &mut [i32], filing: Filing<'_>)
     requires { length words.old ≡ 24 }
     ensures long { length words.new ≡ 24 }
-    ensures written { words.new ≡ cell filing.entry.stamp (accepted_at filing.entry.minute filing.entry.offer.now) }
+    ensures written { words.new ≡ cell filing.entry.stamp (accepted_at filing.entry.minute.number filing.entry.offer.now) }
 {
     let offer = filing.offer;
     words[cell::STAMP] = filing.stamp as i32;
     words[cell::PROPORTION] = offer[offer::PROPORTION];
     words[cell::RAMPS] = packed_ramps(offer[offer::RAMP_UP], offer[offer::RAMP_DOWN]);
-    words[cell::MINUTE] = filing.minute as i32;
+    words[cell::MINUTE] = filing.minute.number as i32;
     copy_words(&mut words[cell::PAIRS..cell::WORDS], pairs_of(offer));
 }
 
@@ -44,7 +44,7 @@ pub fn store_offer(
     filing: Filing<'_>,
 )
     requires { Sized book.old facilities services × (place.f < facilities) × (place.s < services) }
-    ensures { book.new ≡ put book.old (cell_place facilities services place.f place.s (half_number place.half) place.slot.number) (cell filing.entry.stamp (accepted_at filing.entry.minute filing.entry.offer.now)) }
+    ensures { book.new ≡ put book.old (cell_place facilities services place.f place.s (half_number place.half) place.slot.number) (cell filing.entry.stamp (accepted_at filing.entry.minute.number filing.entry.offer.now)) }
 {
     let at = place.start(facilities, services);
     let end = at + cell::WORDS;

@@ -12,7 +12,7 @@ ghost use Rattle.gate.specs.Meaning.{window_of, grounds_of, words_of, IsLent};
 ghost use Rattle.units.specs.Typed.{pairs_of};
 
 use kinds::admits;
-use layout::{facility, time};
+use layout::{Minute, facility, time};
 use units::{Pair, nat, pair_words};
 
 // The periods of an outage or a notice.
@@ -238,11 +238,11 @@ fn is_total_moved(reason: u8, old: Walk, new: Walk) -> bool
 }
 
 // "A variation is open when 30·P − now is 65 or more."
-pub fn is_before_closure(clock: u64, period: u64) -> bool
-    requires { (clock ≤ 1000000000) × (period < 2147483648) }
-    ensures { result ≡ is_open clock period }
+pub fn is_before_closure(clock: Minute, period: u64) -> bool
+    requires { period < 2147483648 }
+    ensures { result ≡ is_open clock.number period }
 {
-    clock + time::GATE_CLOSURE_MINUTES <= time::PERIOD_MINUTES * period
+    clock.number + time::GATE_CLOSURE_MINUTES <= time::PERIOD_MINUTES * period
 }
 
 // "Inside that it needs a reason": what the one given asks of the kind, the service and the period.

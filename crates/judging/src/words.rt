@@ -13,7 +13,7 @@ ghost use Rattle.judging.specs.Usable.{Usable};
 
 use cells::Cells;
 use gate::{Window, is_before_closure};
-use layout::{Refusal, Slot, head, refuse_if};
+use layout::{Minute, Refusal, Slot, head, refuse_if};
 use offers::is_period_refused;
 use periods::bilzhaan_next_period;
 use units::nat;
@@ -38,10 +38,12 @@ impl<'a> Book<'a> {
         nat(self.words[head::SERVICES]) as usize
     }
 
-    pub fn clock(&self) -> u64
-        ensures { (result ≡ to_nat (word self.now.words.now clock_place)) × (result ≤ 1000000000) }
+    pub fn clock(&self) -> Minute
+        ensures { result.number ≡ to_nat (word self.now.words.now clock_place) }
     {
-        nat(self.words[head::CLOCK])
+        Minute {
+            number: nat(self.words[head::CLOCK]),
+        }
     }
 
     pub fn cells(&self) -> Cells<'a>
@@ -82,7 +84,8 @@ impl<'a> Book<'a> {
         ensures bound { drawn result ≤ 10 }
         ensures near { drawn result ≡ 0 → to_nat period < 40000000 }
     {
-        refuse_if(is_period_refused(self.clock(), period), Refusal::Period)
+        let refused = is_period_refused(self.clock().number, period);
+        refuse_if(refused, Refusal::Period)
     }
 
     pub(crate) fn is_before_closure(&self, period: u64) -> bool
@@ -97,7 +100,7 @@ impl<'a> Book<'a> {
     pub(crate) fn next_period(&self, slot: Slot) -> usize
         ensures { (result ≡ next_period (to_nat (word self.now.words.now clock_place)) slot.number) × (result < 2147483647) }
     {
-        let next = bilzhaan_next_period(self.clock() as u32, slot.number as u32);
+        let next = bilzhaan_next_period(self.clock().number as u32, slot.number as u32);
         next as usize
     }
 }

@@ -1,4 +1,4 @@
-// Document 01's places, widths and numbers, each said once in code: the words of a book, the bytes of a record, services,
+// Document 01's places, widths and numbers, each said once in code: the words of a book, the bytes of a record, services, slots, minutes,
 // and who draws which number. The rule's own text of them is in offer_rules and book_rules; a contract that is met shows that both agree.
 #![tactic(auto)]
 
@@ -12,4 +12,4 @@ pub mod refusal;
 pub mod time;
 
 pub use refusal::{Refusal, drawn, refuse_if};
-pub use time::Slot;
+pub use time::{Minute, Slot};

@@ -1,5 +1,5 @@
 // "Units and time", and the limits of minutes and periods.
-ghost use Rattle.std.specs.Prelude.{◌≡◌, ◌<◌};
+ghost use Rattle.std.specs.Prelude.{◌≡◌, ◌≤◌, ◌<◌};
 ghost use Rattle.offer_rules.specs.Time.{slot_of};
 
 pub const PERIOD_MINUTES: u64 = 30;
@@ -13,6 +13,7 @@ pub const SLOTS: u64 = 336;
 
 pub const LAST_SLOT: i32 = SLOTS as i32 - 1;
 
+// "slot outside 0–335" draws 10.
 #[derive(Clone, Copy, Debug, PartialEq, Eq)]
 pub struct Slot {
     pub number: usize,
@@ -39,6 +40,13 @@ pub const GATE_CLOSURE_MINUTES: u64 = 65;
 pub const SCHEDULE_CUTOFF_MINUTES: i64 = 5;
 
 pub const LAST_MINUTE: i32 = 1000000000;
+
+// What a clock shows, or "the minute" of acceptance: "clock outside 0 to 1,000,000,000" draws 1.
+#[derive(Clone, Copy, Debug, PartialEq, Eq)]
+pub struct Minute {
+    pub number: u64,
+    pub ghost timely: { number ≤ 1000000000 },
+}
 
 // "not 0 ≤ A ≤ B ≤ 40,000,000"
 pub const LAST_NOTICE_PERIOD: i32 = 40000000;

@@ -13,7 +13,7 @@ ghost use Rattle.book_rules.specs.Refusals.{facility_number, clock_number, outag
 ghost use Rattle.book_rules.specs.Book.{outage_words};
 
 use kinds::{Kind, Range, is_kind, longest_outage, marks, may_offer};
-use layout::{Refusal, facility, fields, offer, refuse_if, time};
+use layout::{Minute, Refusal, facility, fields, offer, refuse_if, time};
 use units::{any_beyond, is_beyond, nat};
 
 // ---- 5: the facility's kind
@@ -32,12 +32,11 @@ pub fn check_kind(capability: &[i32; facility::CAPABILITY]) -> Result<(), Refusa
 
 // "A below now or above 1,000,000,000"
 #[tactic(auto, using(layout::proofs::Chains::draw_most), unfolding(book_rules::specs::Refusals::clock_number))]
-pub fn check_clock(clock: u64, minute: i32) -> Result<(), Refusal>
-    requires { clock ≤ 1000000000 }
-    ensures number { drawn result ≡ clock_number clock minute }
+pub fn check_clock(clock: Minute, minute: i32) -> Result<(), Refusal>
+    ensures number { drawn result ≡ clock_number clock.number minute }
     ensures bound { drawn result ≤ 6 }
 {
-    let earliest = clock as i32;
+    let earliest = clock.number as i32;
     refuse_if(
         is_beyond(earliest, time::LAST_MINUTE, minute),
         Refusal::Clock,
@@ -49,18 +48,17 @@ pub fn check_clock(clock: u64, minute: i32) -> Result<(), Refusal>
 // "outage: not 0 ≤ m ≤ now, or n outside 1–3 (load 1–48)"; a link's always.
 #[tactic(auto, using(layout::proofs::Chains::draw_most))]
 pub fn check_outage(
-    clock: u64,
+    clock: Minute,
     capability: &[i32; facility::CAPABILITY],
     minute: i32,
     count: i32,
 ) -> Result<(), Refusal>
-    requires { clock ≤ 1000000000 }
-    ensures number { drawn result ≡ outage_number clock capability.now minute count }
+    ensures number { drawn result ≡ outage_number clock.number capability.now minute count }
     ensures bound { drawn result ≤ 7 }
     ensures passed { drawn result ≡ 0 → to_nat count ≤ 48 }
 {
     let longest = longest_outage(capability[facility::KIND]);
-    let minute_beyond = is_beyond(0, clock as i32, minute);
+    let minute_beyond = is_beyond(0, clock.number as i32, minute);
     let count_beyond = is_beyond(1, longest, count);
     refuse_if(minute_beyond | count_beyond, Refusal::Notice)
 }

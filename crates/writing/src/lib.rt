@@ -18,7 +18,7 @@ ghost use Rattle.judging.specs.Tested as tested;
 
 use cells::{CellPlace, Filing, Half, store_offer, store_words};
 use judging::{Book, Facility, Passed, Series};
-use layout::{Refusal, Slot, cell, facility, fields, head, offer, refuse_if};
+use layout::{Minute, Refusal, Slot, cell, facility, fields, head, offer, refuse_if};
 use offers::{is_period_refused, is_slot_refused};
 use record::{Record, capability_in, read_offer, word_at};
 use units::nat;
@@ -71,7 +71,7 @@ pub fn capability_call(book: &mut [i32], bytes: &Record) -> Result<(), Refusal>
 // Files an offer in its cell.
 fn file_offer(book: &mut [i32], place: CellPlace, filing: Filing<'_>)
     requires { Usable book.old × (place.f < facilities_in book.old) × (place.s < services_in book.old) }
-    ensures { book.new ≡ write_cell book.old place.f place.s (half_number place.half) place.slot.number (cell filing.entry.stamp (accepted_at filing.entry.minute filing.entry.offer.now)) }
+    ensures { book.new ≡ write_cell book.old place.f place.s (half_number place.half) place.slot.number (cell filing.entry.stamp (accepted_at filing.entry.minute.number filing.entry.offer.now)) }
 {
     let view = Book { words: book };
     let facilities = view.facilities();
@@ -144,7 +144,7 @@ fn file_variation(book: &mut [i32], f: usize, s: usize, period: usize, filed: Pa
         let none = [0i32; offer::WORDS];
         let filing = Filing {
             stamp: cell::EMPTY_STAMP,
-            minute: 0,
+            minute: Minute { number: 0 },
             offer: &none,
         };
         return file_offer(book, place, filing);
@@ -197,7 +197,7 @@ pub fn variation_call(book: &mut [i32], bytes: &Record) -> Result<(), Refusal>
         service: bytes[fields::SERVICE],
     };
     let clock = facility.book.clock();
-    series.check_admission(is_period_refused(clock, word_at(bytes, fields::PERIOD)))?;
+    series.check_admission(is_period_refused(clock.number, word_at(bytes, fields::PERIOD)))?;
     vary(book, bytes)
 }
 

@@ -7,7 +7,7 @@ use Rattle.reading.proofs.look_up_call.Goals as goal
 pub returns-in-Ok : goal.returns-in-Ok
 returns-in-Ok c =
     let period = handed_on (sfits_of c.word_at.type_inv) c.word_at.ensures in
-    look_up_answered c.args.book.now c.args.bytes.now c.requires.tested c.requires.call_is c.from.ensures period _ c.in-Ok.ensures.number c.in-Ok.ensures.offer c.clock.ensures.0 c.look_up.ensures
+    look_up_answered c.args.book.now c.args.bytes.now c.requires.tested c.requires.call_is c.from.ensures period _ c.in-Ok.ensures.number c.in-Ok.ensures.offer c.clock.ensures c.look_up.ensures
 
 pub returns-in-Err : goal.returns-in-Err
 returns-in-Err c =

@@ -16,7 +16,7 @@ returns-in_err-check_clock c =
     let minute = handed_on (sfits_of c.word_at-minute.type_inv) c.word_at-minute.ensures in
     let x = c.in_err-check_clock in
     refused_by w b c.requires.0 c.from_residual.result x.field-0.0 c.from_residual.ensures.1
-    (rw (c.clock-clock.ensures.0, minute) at x.ensures.number ∙ sym (judge_clock (book_view w) b c.requires.1))
+    (rw (c.clock-clock.ensures, minute) at x.ensures.number ∙ sym (judge_clock (book_view w) b c.requires.1))
 
 pub returns : goal.returns
 unfolding book_view
@@ -25,6 +25,6 @@ returns c =
     let b = c.args.bytes.now in
     let minute = handed_on (sfits_of c.word_at-minute.type_inv) c.word_at-minute.ensures in
     filed w b c.requires.0 1 c.requires.1 (omega arith)
-    (rw (c.clock-clock.ensures.0, minute) at c.in_ok-check_clock.ensures.number ∙ sym (judge_clock (book_view w) b c.requires.1))
+    (rw (c.clock-clock.ensures, minute) at c.in_ok-check_clock.ensures.number ∙ sym (judge_clock (book_view w) b c.requires.1))
     c.store_words.new.book
     (c.store_words.ensures ∙ ap (λ (z : ℤ). put w clock_place (z ∷ [])) minute ∙ sym (accept_clock w b c.requires.1))

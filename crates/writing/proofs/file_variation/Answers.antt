@@ -7,9 +7,9 @@ use Rattle.book_rules.specs.Book.{now_in, write_cell}
 use Rattle.writing.proofs.OfferParts.{empty_cell, stamped_cell}
 use Rattle.writing.proofs.file_variation.Goals as goal
 
-pub invariant_of-filing : goal.invariant_of-filing
+pub invariant_of-filing-then-is_all_blank : goal.invariant_of-filing-then-is_all_blank
 unfolding any_beyond
-invariant_of-filing c = search rules
+invariant_of-filing-then-is_all_blank c = search rules
 
 pub returns-then-is_all_blank : goal.returns-then-is_all_blank
 returns-then-is_all_blank c =
@@ -25,5 +25,5 @@ returns c =
     let o = a.filed.offer.now in
     let stamp = variation_stamp a.period in
     let filed = λ (l : List ℤ). write_cell w a.f a.s variation_half (slot_of a.period) l in
-    let timed = ap (λ (n : ℕ). filed (cell stamp (accepted_at n o))) c.clock.ensures.0 in
+    let timed = ap (λ (n : ℕ). filed (cell stamp (accepted_at n o))) c.clock.ensures in
     rw c.of-slot.ensures at c.file_offer-2.ensures ∙ timed ∙ ap filed (stamped_cell stamp (now_in w) o (sym c.is_all_blank.ensures ∙ c.if-is_all_blank.false))

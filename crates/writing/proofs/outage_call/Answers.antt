@@ -26,7 +26,7 @@ returns-in_err-check_outage c =
     let kind = rw c.from.ensures at c.in_ok-check_kind.ensures.number in
     let x = c.in_err-check_outage in
     refused_by w b c.requires.tested c.from_residual-in_err-check_outage.result x.field-0.0 c.from_residual-in_err-check_outage.ensures.1
-    (by_next _ _ (judge_outage (book_view w) b c.requires.call_is) kind (rw (c.clock.ensures.0, c.capability.ensures, c.from.ensures, minute, count) at x.ensures.number))
+    (by_next _ _ (judge_outage (book_view w) b c.requires.call_is) kind (rw (c.clock.ensures, c.capability.ensures, c.from.ensures, minute, count) at x.ensures.number))
 
 -- None is drawn, and the window's two words are written.
 pub outage_window-requires : goal.outage_window-requires
@@ -40,7 +40,7 @@ returns c =
     let minute = handed_on (sfits_of c.word_at-minute.type_inv) c.word_at-minute.ensures in
     let count = handed_on (sfits_of c.word_at-count.type_inv) c.word_at-count.ensures in
     let kind = rw c.from.ensures at c.in_ok-check_kind.ensures.number in
-    let outage = rw (c.clock.ensures.0, c.capability.ensures, c.from.ensures, minute, count) at c.in_ok-check_outage.ensures.number in
+    let outage = rw (c.clock.ensures, c.capability.ensures, c.from.ensures, minute, count) at c.in_ok-check_outage.ensures.number in
     filed w b c.requires.tested 5 c.requires.call_is (omega arith) (by_next _ _ (judge_outage (book_view w) b c.requires.call_is) kind outage)
     c.store_words.new.book
     (c.store_words.ensures ∙ rw (c.start-at.ensures.0, c.from.ensures, c.outage_window.ensures, minute, count) (sym (accept_outage w b c.requires.call_is)))

@@ -12,9 +12,9 @@ returns-in_err-check_admission c =
     let period = handed_on (sfits_of c.word_at.type_inv) c.word_at.ensures in
     let x = c.in_err-check_admission in
     refused_by w b c.requires.tested c.from_residual.result x.field-0.0 c.from_residual.ensures.1
-    (by_first _ _ (variation_parts w b c.requires.call_is) x.field-0.0 (rw (c.from.ensures, c.is_period_refused.ensures, c.clock-clock.ensures.0, period) at x.ensures.number))
+    (by_first _ _ (variation_parts w b c.requires.call_is) x.field-0.0 (rw (c.from.ensures, c.is_period_refused.ensures, c.clock-clock.ensures, period) at x.ensures.number))
 
 pub vary-requires : goal.vary-requires
 vary-requires c =
     let period = handed_on (sfits_of c.word_at.type_inv) c.word_at.ensures in
-    record { place = c.requires; is_admitted = sym (rw (c.from.ensures, c.is_period_refused.ensures, c.clock-clock.ensures.0, period) at c.in_ok-check_admission.ensures.number) }
+    record { place = c.requires; is_admitted = sym (rw (c.from.ensures, c.is_period_refused.ensures, c.clock-clock.ensures, period) at c.in_ok-check_admission.ensures.number) }

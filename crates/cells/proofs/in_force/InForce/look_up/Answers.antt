@@ -6,4 +6,4 @@ use Rattle.cells.proofs.in_force.InForce.look_up.Goals as goal
 
 pub returns : goal.returns
 unfolding found cell_held
-returns c = rw (words_shown c.args.self.now c.args.clock, sum_shown c.args.self.now) (search rules)
+returns c = rw (words_shown c.args.self.now c.args.clock.number, sum_shown c.args.self.now) (search rules)

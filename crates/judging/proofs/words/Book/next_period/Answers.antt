@@ -7,4 +7,4 @@ pub returns : goal.returns
 returns c =
     let next = c.bilzhaan_next_period-next.ensures in
     let own : slot_of c.args.slot.number ≡ c.args.slot.number = omega arith in
-    (next.0 ∙ ap₂ next_period c.clock.ensures.0 own, omega (arith, next_is_near _ _ _ next.1, c.clock.ensures.1))
+    (next.0 ∙ ap₂ next_period c.clock.ensures own, omega (arith, next_is_near _ _ _ next.1))
