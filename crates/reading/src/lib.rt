@@ -13,7 +13,7 @@ ghost use Rattle.reading.specs.Answered.{answered};
 ghost use Rattle.judging.specs.Tested.{Tested, Place};
 
 use cells::{Answer, InForce};
-use judging::{Book, Facility, Series};
+use judging::{Book, Series};
 use layout::{Refusal, fields};
 use record::{Record, word_at};
 use units::nat;
@@ -39,17 +39,9 @@ pub fn look_up_call(book: &[i32], bytes: &Record) -> Result<Answer, Refusal>
     requires { Place book.now bytes.now 8 }
     ensures { answered result ≡ book_answer book.now bytes.now }
 {
-    let book = Book { words: book };
-    let facility = Facility {
-        book,
-        f: usize::from(bytes[fields::FACILITY]),
-    };
-    let series = Series {
-        facility,
-        service: bytes[fields::SERVICE],
-    };
+    let series = Series::named(book, bytes);
     let offer = asked(series, word_at(bytes, fields::PERIOD))?;
-    Ok(offer.look_up(book.clock()))
+    Ok(offer.look_up(series.facility.book.clock()))
 }
 
 // 10; answers the count and the sum.

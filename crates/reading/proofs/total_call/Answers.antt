@@ -1,5 +1,4 @@
 use borrow.Author.Rules.{sfits_of}
-use Rattle.std.proofs.Common.{◌∙◌}
 use Rattle.std.proofs.lemmas.Result.{err_from_is_err_and}
 use Rattle.units.proofs.Counts.{handed_on}
 use Rattle.reading.proofs.Read.{total_refused, total_answered}

@@ -1,4 +1,4 @@
-use Rattle.std.proofs.Common.{◌≡◌, ◌∙◌, ◌+◌, ◌++◌, ◌∷◌, [], ℕ, List, ℤ, ap, sym, length, take, drop, get_or, pos, arith, rules, append_assoc, append-nil, length-append, length-take-le, length-set, to_z, of_z, w32, add-zero}
+use Rattle.std.proofs.Common.{◌≡◌, ◌∙◌, ◌+◌, ◌++◌, ◌∷◌, [], List, ℤ, ap, sym, length, take, drop, get_or, pos, arith, rules, append_assoc, append-nil, length-append, length-take-le, length-set, to_z, of_z, w32, add-zero}
 use Rattle.std.proofs.lemmas.List.{take_more, take-append-drop}
 use lib.Seq.{take_all}
 use Rattle.units.proofs.Copying.{written_more}
