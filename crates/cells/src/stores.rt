@@ -51,11 +51,13 @@ pub fn store_offer(
     write_cell(&mut book[at..end], filing);
 }
 
-// "Other accepted calls write only the fields they carry."
-#[tactic(auto, unfolding(book_rules::specs::Words::put))]
+// "Other accepted calls write only the fields they carry." Word by word, of which one, two or 17 become single stores:
+// copy_from_slice also tests whether the two overlap, and reads back what was just written to a local.
 pub fn store_words(book: &mut [i32], at: usize, words: &[i32])
     requires { at + length words.now ≤ length book.old }
     ensures { book.new ≡ put book.old at words.now }
 {
-    book[at..at + words.len()].copy_from_slice(words);
+    for (i, word) in words.iter().enumerate() {
+        book[at + i] = *word;
+    }
 }

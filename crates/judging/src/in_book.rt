@@ -4,14 +4,16 @@ ghost use Rattle.offer_rules.specs.Numbers.{to_nat, word};
 ghost use Rattle.offer_rules.specs.Offer.{pairs_in};
 ghost use Rattle.offer_rules.specs.Gate.{is_open};
 ghost use Rattle.layout.specs.Refusal.{drawn};
+ghost use Rattle.book_rules.specs.Record.{facility_of};
 ghost use Rattle.book_rules.specs.Words.{part, clock_place, facility_place};
 ghost use Rattle.book_rules.specs.Refusals.{facility_number, gate_number, grounds};
 ghost use Rattle.book_rules.specs.Book.{facilities_in, book_view};
 ghost use Rattle.gate.specs.Meaning.{grounds_of, words_of, IsLent};
+ghost use Rattle.judging.specs.Usable.{Usable};
 
 use crate::words::Book;
 use gate::{Filing, Grounds, Offer, is_excepted};
-use layout::{Refusal, facility, head, refuse_if};
+use layout::{Refusal, facility, fields, head, refuse_if};
 
 #[derive(Clone, Copy)]
 pub struct Facility<'a> {
@@ -21,6 +23,18 @@ pub struct Facility<'a> {
 }
 
 impl<'a> Facility<'a> {
+    // The one that a record names.
+    pub fn named(book: &'a [i32], bytes: &[u8; fields::BYTES]) -> Facility<'a>
+        requires usable { Usable book.now }
+        requires inside { facility_of bytes.now < facilities_in book.now }
+        ensures { (result.book.words.now ≡ book.now) × (result.f ≡ facility_of bytes.now) }
+    {
+        Facility {
+            book: Book { words: book },
+            f: usize::from(bytes[fields::FACILITY]),
+        }
+    }
+
     // Where its words start.
     pub fn start(&self) -> usize
         ensures { (result ≡ facility_place self.now.f) × (result + 32 ≤ length self.now.book.words.now) }

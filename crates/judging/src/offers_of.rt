@@ -6,19 +6,21 @@ ghost use Rattle.offer_rules.specs.Numbers.{to_nat, word};
 ghost use Rattle.offer_rules.specs.Time.{slot_of, next_period};
 ghost use Rattle.offer_rules.specs.Offer.{pairs_in, pairs, BlanksLast, offer_number};
 ghost use Rattle.layout.specs.Refusal.{drawn};
+ghost use Rattle.book_rules.specs.Record.{facility_of, service_of};
 ghost use Rattle.book_rules.specs.Words.{part, clock_place, limits_place, facility_place};
 ghost use Rattle.book_rules.specs.Force.{first_of, in_force, will_stand, pairs_of};
 ghost use Rattle.book_rules.specs.Refusals.{gate_number, admission_number, revision_number, admitted_standing, grounds};
-ghost use Rattle.book_rules.specs.Book.{services_in, book_view};
+ghost use Rattle.book_rules.specs.Book.{facilities_in, services_in, book_view};
 ghost use Rattle.offers.specs.PairTests.{UsesFive};
 ghost use Rattle.gate.specs.Meaning.{words_of, IsLent};
 ghost use Rattle.cells.specs.Meaning.{held_by};
+ghost use Rattle.judging.specs.Usable.{Usable};
 
 use crate::filed::Passed;
 use crate::in_book::Facility;
 use cells::Cell;
 use gate::{Filing, Offer};
-use layout::{Refusal, Slot, offer, refuse_if};
+use layout::{Refusal, Slot, fields, offer, refuse_if};
 
 #[derive(Clone, Copy)]
 pub struct Series<'a> {
@@ -28,6 +30,19 @@ pub struct Series<'a> {
 }
 
 impl<'a> Series<'a> {
+    // The ones that a record names.
+    pub fn named(book: &'a [i32], bytes: &[u8; fields::BYTES]) -> Series<'a>
+        requires usable { Usable book.now }
+        requires facility_in { facility_of bytes.now < facilities_in book.now }
+        requires service_in { service_of bytes.now < services_in book.now }
+        ensures { (result.facility.book.words.now ≡ book.now) × (result.facility.f ≡ facility_of bytes.now) × (result.service ≡ service_of bytes.now) }
+    {
+        Series {
+            facility: Facility::named(book, bytes),
+            service: bytes[fields::SERVICE],
+        }
+    }
+
     // 5, 9 and 10 of an offer, of which it is told whether its slot or its period is refused: 10 comes last, whichever it asks. None of its words is asked for.
     #[tactic(auto, using(layout::proofs::Chains::passed_first, layout::proofs::Chains::refused_first, layout::proofs::Chains::draw_most), unfolding(book_rules::specs::Refusals::admission_number))]
     pub fn check_admission(&self, refused: bool) -> Result<(), Refusal>

@@ -13,15 +13,16 @@ use Rattle.judging.specs.Tested.{Tested}
 use Rattle.judging.proofs.Answering.{refused, read}
 
 module _ (w : List ℤ) (b : List ℕ) (t : Tested w b) where
-  module _ (c : call_of b ≡ 8) {f : ℕ} {p : ℤ} (ef : f ≡ facility_of b) (ep : p ≡ period_word b) where
-    pub look_up_refused : (r : Refusal) → number r ≡ look_up_number (book_view w) f (service_of b) p → plain (number r) ≡ book_answer w b
-    look_up_refused r e = (refused w b t r (rw (ef, ep) at e ∙ sym (judge_look_up (book_view w) b c))).0
+  module _ (c : call_of b ≡ 8) {v : List ℤ} {f s : ℕ} {p : ℤ} (ev : v ≡ w) (ef : f ≡ facility_of b) (es : s ≡ service_of b) (ep : p ≡ period_word b) where
+    pub look_up_refused : (r : Refusal) → number r ≡ look_up_number (book_view v) f s p → plain (number r) ≡ book_answer w b
+    look_up_refused r e = (refused w b t r (rw (ev, ef, es, ep) at e ∙ sym (judge_look_up (book_view w) b c))).0
 
-    pub look_up_answered : (a : Answer) {x : InForce} {now : ℕ} → 0 ≡ look_up_number (book_view w) f (service_of b) p
-        → x ≡ in_force (book_view w) f (service_of b) (to_nat p) → now ≡ to_nat (word w clock_place) → a ≡ found now x → a ≡ book_answer w b
+    pub look_up_answered : (a : Answer) {x : InForce} {now : ℕ} → 0 ≡ look_up_number (book_view v) f s p
+        → x ≡ in_force (book_view v) f s (to_nat p) → now ≡ to_nat (word v clock_place) → a ≡ found now x → a ≡ book_answer w b
     unfolding look_up_reply book_view
     look_up_answered a e ex en ea =
-        read w b t a (rw (ef, ep) at e ∙ sym (judge_look_up (book_view w) b c)) (ea ∙ rw (en, ex, ef, ep) (sym (reply_look_up (book_view w) b c)))
+        read w b t a (rw (ev, ef, es, ep) at e ∙ sym (judge_look_up (book_view w) b c))
+        (ea ∙ rw (en, ex, ev, ef, es, ep) (sym (reply_look_up (book_view w) b c)))
 
   module _ (c : call_of b ≡ 9) {p : ℤ} (ep : p ≡ period_word b) where
     pub total_refused : (r : Refusal) → number r ≡ period_number (to_nat (word w clock_place)) p → plain (number r) ≡ book_answer w b

@@ -9,11 +9,12 @@ ghost use Rattle.book_rules.specs.Record.{call_of, service_of};
 ghost use Rattle.book_rules.specs.Force.{in_force};
 ghost use Rattle.book_rules.specs.Refusals.{look_up_number};
 ghost use Rattle.book_rules.specs.Book.{services_in, book_view, book_answer};
-ghost use Rattle.cells.specs.Meaning.{meaning, answer_of};
+ghost use Rattle.cells.specs.Meaning.{meaning};
+ghost use Rattle.reading.specs.Answered.{answered};
 ghost use Rattle.judging.specs.Tested.{Tested, Place};
 
 use cells::{Answer, InForce};
-use judging::{Book, Facility, Series};
+use judging::{Book, Series};
 use layout::{Refusal, fields};
 use record::{Record, word_at};
 use units::nat;
@@ -35,35 +36,23 @@ fn asked<'a>(series: Series<'a>, period: i32) -> Result<InForce<'a>, Refusal>
 }
 
 // 5, 10 and 19; answers the offer in force.
-pub fn look_up_call(book: &[i32], bytes: &Record) -> Answer
+pub fn look_up_call(book: &[i32], bytes: &Record) -> Result<Answer, Refusal>
     requires { Place book.now bytes.now 8 }
-    ensures { answer_of result ≡ book_answer book.now bytes.now }
+    ensures { answered result ≡ book_answer book.now bytes.now }
 {
-    let book = Book { words: book };
-    let facility = Facility {
-        book,
-        f: usize::from(bytes[fields::FACILITY]),
-    };
-    let series = Series {
-        facility,
-        service: bytes[fields::SERVICE],
-    };
-    match asked(series, word_at(bytes, fields::PERIOD)) {
-        Ok(offer) => offer.look_up(book.clock()),
-        Err(refusal) => Answer::from(refusal),
-    }
+    let series = Series::named(book, bytes);
+    let offer = asked(series, word_at(bytes, fields::PERIOD))?;
+    Ok(offer.look_up(series.facility.book.clock()))
 }
 
 // 10; answers the count and the sum.
-pub fn total_call(book: &[i32], bytes: &Record) -> Answer
+pub fn total_call(book: &[i32], bytes: &Record) -> Result<Answer, Refusal>
     requires { Tested book.now bytes.now × (call_of bytes.now ≡ 9) × (service_of bytes.now < services_in book.now) }
-    ensures { answer_of result ≡ book_answer book.now bytes.now }
+    ensures { answered result ≡ book_answer book.now bytes.now }
 {
     let book = Book { words: book };
     let service = usize::from(bytes[fields::SERVICE]);
     let period = word_at(bytes, fields::PERIOD);
-    match book.check_period(period) {
-        Ok(()) => book.cells().total(service, nat(period) as usize),
-        Err(refusal) => Answer::from(refusal),
-    }
+    book.check_period(period)?;
+    Ok(book.cells().total(service, nat(period) as usize))
 }

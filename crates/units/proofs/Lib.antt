@@ -2,5 +2,6 @@
 pub mod Counts
 pub mod Signs
 pub mod Adding
+pub mod Copying
 pub mod Chunks
 pub mod WordByWord

@@ -41,10 +41,7 @@ fn file_capability(book: &mut [i32], bytes: &Record) -> Result<(), Refusal>
     ensures { (plain (drawn result) ≡ book_answer book.old bytes.now) × (book.new ≡ book_after book.old bytes.now) }
 {
     let sent = capability_in(bytes);
-    let facility = Facility {
-        book: Book { words: book },
-        f: usize::from(bytes[fields::FACILITY]),
-    };
+    let facility = Facility::named(book, bytes);
     refusals::check_capability(facility.capability(), &sent)?;
     let at = facility.start();
     store_words(book, at, &sent);
@@ -56,10 +53,7 @@ pub fn capability_call(book: &mut [i32], bytes: &Record) -> Result<(), Refusal>
     requires { tested.Facility book.old bytes.now 2 }
     ensures { (plain (drawn result) ≡ book_answer book.old bytes.now) × (book.new ≡ book_after book.old bytes.now) }
 {
-    let facility = Facility {
-        book: Book { words: book },
-        f: usize::from(bytes[fields::FACILITY]),
-    };
+    let facility = Facility::named(book, bytes);
     let kind = word_at(bytes, fields::W0);
     refuse_if(
         refusals::is_kind_refused(facility.capability(), kind),
@@ -97,20 +91,16 @@ fn stand(book: &mut [i32], bytes: &Record) -> Result<(), Refusal>
     requires { tested.Admitted book.old bytes.now 3 (slot_refused (period_word bytes.now)) }
     ensures { (plain (drawn result) ≡ book_answer book.old bytes.now) × (book.new ≡ book_after book.old bytes.now) }
 {
-    let f = usize::from(bytes[fields::FACILITY]);
-    let service = bytes[fields::SERVICE];
     let slot = Slot {
         number: nat(word_at(bytes, fields::PERIOD)) as usize,
     };
     let mut offer = [0i32; offer::WORDS];
     read_offer(bytes, &mut offer);
-    let facility = Facility {
-        book: Book { words: book },
-        f,
-    };
-    let series = Series { facility, service };
+    let series = Series::named(book, bytes);
     series.check_standing(slot, bytes[fields::REASON], &offer)?;
-    file_standing(book, f, usize::from(service), slot, &offer);
+    let f = series.facility.f;
+    let s = usize::from(series.service);
+    file_standing(book, f, s, slot, &offer);
     Ok(())
 }
 
@@ -119,14 +109,7 @@ pub fn standing_call(book: &mut [i32], bytes: &Record) -> Result<(), Refusal>
     requires { tested.Place book.old bytes.now 3 }
     ensures { (plain (drawn result) ≡ book_answer book.old bytes.now) × (book.new ≡ book_after book.old bytes.now) }
 {
-    let facility = Facility {
-        book: Book { words: book },
-        f: usize::from(bytes[fields::FACILITY]),
-    };
-    let series = Series {
-        facility,
-        service: bytes[fields::SERVICE],
-    };
+    let series = Series::named(book, bytes);
     series.check_admission(is_slot_refused(word_at(bytes, fields::PERIOD)))?;
     stand(book, bytes)
 }
@@ -162,24 +145,20 @@ fn vary(book: &mut [i32], bytes: &Record) -> Result<(), Refusal>
     requires { tested.Admitted book.old bytes.now 4 (period_refused (to_nat (word book.old clock_place)) (period_word bytes.now)) }
     ensures { (plain (drawn result) ≡ book_answer book.old bytes.now) × (book.new ≡ book_after book.old bytes.now) }
 {
-    let f = usize::from(bytes[fields::FACILITY]);
-    let service = bytes[fields::SERVICE];
     let period = nat(word_at(bytes, fields::PERIOD)) as usize;
     let reason = bytes[fields::REASON];
     let mut offer = [0i32; offer::WORDS];
     read_offer(bytes, &mut offer);
-    let facility = Facility {
-        book: Book { words: book },
-        f,
-    };
-    let series = Series { facility, service };
+    let series = Series::named(book, bytes);
     series.check_offer(reason, &offer)?;
     let filed = Passed {
         reason,
         offer: &offer,
     };
     series.check_variation_gate(period, filed)?;
-    file_variation(book, f, usize::from(service), period, filed);
+    let f = series.facility.f;
+    let s = usize::from(series.service);
+    file_variation(book, f, s, period, filed);
     Ok(())
 }
 
@@ -188,15 +167,8 @@ pub fn variation_call(book: &mut [i32], bytes: &Record) -> Result<(), Refusal>
     requires { tested.Place book.old bytes.now 4 }
     ensures { (plain (drawn result) ≡ book_answer book.old bytes.now) × (book.new ≡ book_after book.old bytes.now) }
 {
-    let facility = Facility {
-        book: Book { words: book },
-        f: usize::from(bytes[fields::FACILITY]),
-    };
-    let series = Series {
-        facility,
-        service: bytes[fields::SERVICE],
-    };
-    let clock = facility.book.clock();
+    let series = Series::named(book, bytes);
+    let clock = series.facility.book.clock();
     series.check_admission(is_period_refused(clock.number, word_at(bytes, fields::PERIOD)))?;
     vary(book, bytes)
 }
@@ -208,10 +180,7 @@ pub fn outage_call(book: &mut [i32], bytes: &Record) -> Result<(), Refusal>
 {
     let minute = word_at(bytes, fields::A);
     let count = word_at(bytes, fields::B);
-    let facility = Facility {
-        book: Book { words: book },
-        f: usize::from(bytes[fields::FACILITY]),
-    };
+    let facility = Facility::named(book, bytes);
     facility.check_kind()?;
     refusals::check_outage(facility.book.clock(), facility.capability(), minute, count)?;
     let at = facility.start() + facility::OUTAGE;

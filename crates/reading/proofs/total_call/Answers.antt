@@ -1,15 +1,16 @@
 use borrow.Author.Rules.{sfits_of}
-use Rattle.std.proofs.Common.{◌∙◌}
+use Rattle.std.proofs.lemmas.Result.{err_from_is_err_and}
 use Rattle.units.proofs.Counts.{handed_on}
 use Rattle.reading.proofs.Read.{total_refused, total_answered}
 use Rattle.reading.proofs.total_call.Goals as goal
 
-pub returns-in-Ok : goal.returns-in-Ok
-returns-in-Ok c =
+pub returns : goal.returns
+returns c =
     let period = handed_on (sfits_of c.word_at-period.type_inv) c.word_at-period.ensures in
-    total_answered c.args.book.now c.args.bytes.now c.requires.0 c.requires.1 period _ c.in-Ok.ensures.number c.cells.ensures.0 c.from-service.ensures c.nat.ensures.0 c.total.ensures
+    total_answered c.args.book.now c.args.bytes.now c.requires.0 c.requires.1 period _ c.in_ok-check_period.ensures.number c.cells.ensures.0 c.from-service.ensures c.nat.ensures.0 c.total.ensures
 
-pub returns-in-Err : goal.returns-in-Err
-returns-in-Err c =
+pub returns-in_err-check_period : goal.returns-in_err-check_period
+returns-in_err-check_period c =
     let period = handed_on (sfits_of c.word_at-period.type_inv) c.word_at-period.ensures in
-    c.from.ensures ∙ total_refused c.args.book.now c.args.bytes.now c.requires.0 c.requires.1 period c.in-Err.refusal c.in-Err.ensures.number
+    let p = err_from_is_err_and c.from_residual.result c.from_residual.ensures.1 in
+    rw (p.1, p.2) (total_refused c.args.book.now c.args.bytes.now c.requires.0 c.requires.1 period c.in_err-check_period.field-0.0 c.in_err-check_period.ensures.number)

@@ -1,5 +1,5 @@
 use borrow.Author.Rules.{sfits_of}
-use Rattle.std.proofs.Common.{sym, ◌∙◌, ap, ap₂, ℕ, Bool}
+use Rattle.std.proofs.Common.{sym, ◌∙◌, ap, ap₂, ℕ, ℤ, List, Bool}
 use Rattle.units.proofs.Counts.{handed_on}
 use Rattle.offer_rules.specs.Numbers.{draw}
 use Rattle.book_rules.specs.Record.{facility_of}
@@ -16,7 +16,8 @@ unfolding book_view
 returns-in_err-refuse_if c =
     let w = c.args.book.now in
     let b = c.args.bytes.now in
-    let held = c.capability.ensures ∙ ap (λ (f : ℕ). part (facility_place f) 17 w) c.from.ensures in
+    let n = c.named-facility.ensures in
+    let held = c.capability.ensures ∙ ap₂ (λ (v : List ℤ) (f : ℕ). part (facility_place f) 17 v) n.0 n.1 in
     let kind = handed_on (sfits_of c.word_at-kind.type_inv) c.word_at-kind.ensures in
     let x = c.in_err-refuse_if in
     let drawn = x.ensures ∙ ap (λ (t : Bool). draw t 8) (c.is_kind_refused.ensures ∙ ap₂ kind_refused held kind) in

@@ -1,4 +1,4 @@
-use Rattle.std.proofs.Common.{arith, sym, ◌∙◌, ap, ap₂, ℕ}
+use Rattle.std.proofs.Common.{arith, sym, ◌∙◌, ap, ap₂, ℕ, ℤ, List}
 use Rattle.book_rules.specs.Words.{part, put, facility_place}
 use Rattle.book_rules.specs.Refusals.{capability_number}
 use Rattle.book_rules.specs.Book.{book_view}
@@ -12,7 +12,8 @@ unfolding book_view
 returns-in_err-check_capability c =
     let w = c.args.book.now in
     let b = c.args.bytes.now in
-    let held = c.capability.ensures ∙ ap (λ (f : ℕ). part (facility_place f) 17 w) c.from.ensures in
+    let n = c.named-facility.ensures in
+    let held = c.capability.ensures ∙ ap₂ (λ (v : List ℤ) (f : ℕ). part (facility_place f) 17 v) n.0 n.1 in
     let x = c.in_err-check_capability in
     refused_by w b c.requires.tested c.from_residual.result x.field-0.0 c.from_residual.ensures.1
     (x.ensures.number ∙ ap₂ capability_number held c.capability_in-sent.ensures ∙ sym (judge_capability (book_view w) b c.requires.call_is))
@@ -22,8 +23,9 @@ unfolding book_view
 returns c =
     let w = c.args.book.now in
     let b = c.args.bytes.now in
-    let held = c.capability.ensures ∙ ap (λ (f : ℕ). part (facility_place f) 17 w) c.from.ensures in
-    let at = c.start-at.ensures.0 ∙ ap facility_place c.from.ensures in
+    let n = c.named-facility.ensures in
+    let held = c.capability.ensures ∙ ap₂ (λ (v : List ℤ) (f : ℕ). part (facility_place f) 17 v) n.0 n.1 in
+    let at = c.start-at.ensures.0 ∙ ap facility_place n.1 in
     filed w b c.requires.tested 2 c.requires.call_is (omega arith)
     (c.in_ok-check_capability.ensures.number ∙ ap₂ capability_number held c.capability_in-sent.ensures ∙ sym (judge_capability (book_view w) b c.requires.call_is))
     c.store_words.new.book

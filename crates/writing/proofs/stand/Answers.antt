@@ -21,26 +21,29 @@ invariant_of-slot c =
 pub check_standing-requires : goal.check_standing-requires
 check_standing-requires c =
     let p = c.requires.place in
-    rw c.read_offer.ensures (offer_uses_five c.args.book.now c.args.bytes.now p.tested (inl p.call_is))
+    let n = c.named-series.ensures in
+    rw (n.2, c.read_offer.ensures) (offer_uses_five c.args.book.now c.args.bytes.now p.tested (inl p.call_is))
 
 pub returns-in_err-check_standing : goal.returns-in_err-check_standing
 returns-in_err-check_standing c =
     let w = c.args.book.now in
     let b = c.args.bytes.now in
     let p = c.requires.place in
+    let n = c.named-series.ensures in
     let count : c.nat.result ≡ to_nat (period_word b) = c.nat.ensures.0 ∙ ap to_nat (handed_on (sfits_of c.word_at.type_inv) c.word_at.ensures) in
     let x = c.in_err-check_standing in
     refused_by w b p.tested c.from_residual.result x.field-0.0 c.from_residual.ensures.1
-    (by_next _ _ (standing_parts w b p.call_is) (sym c.requires.is_admitted) (rw (c.from-f.ensures, count, c.read_offer.ensures) at x.ensures.number))
+    (by_next _ _ (standing_parts w b p.call_is) (sym c.requires.is_admitted) (rw (n.0, n.1, n.2, count, c.read_offer.ensures) at x.ensures.number))
 
 pub file_standing-requires : goal.file_standing-requires
 file_standing-requires c =
     let w = c.args.book.now in
     let b = c.args.bytes.now in
     let p = c.requires.place in
+    let n = c.named-series.ensures in
     let count : c.nat.result ≡ to_nat (period_word b) = c.nat.ensures.0 ∙ ap to_nat (handed_on (sfits_of c.word_at.type_inv) c.word_at.ensures) in
-    let passed = rw (c.from-f.ensures, count, c.read_offer.ensures) at c.in_ok-check_standing.ensures.number in
-    rw (c.from-f.ensures, c.from.ensures, c.read_offer.ensures)
+    let passed = rw (n.0, n.1, n.2, count, c.read_offer.ensures) at c.in_ok-check_standing.ensures.number in
+    rw (n.1, c.from-s.ensures, n.2, c.read_offer.ensures)
     (p.tested.usable, p.facility_in, p.service_in, standing_ramps w b p.tested p.call_is (to_nat (period_word b)) passed)
 
 pub returns : goal.returns
@@ -48,8 +51,9 @@ returns c =
     let w = c.args.book.now in
     let b = c.args.bytes.now in
     let p = c.requires.place in
+    let n = c.named-series.ensures in
     let count : c.nat.result ≡ to_nat (period_word b) = c.nat.ensures.0 ∙ ap to_nat (handed_on (sfits_of c.word_at.type_inv) c.word_at.ensures) in
-    let passed = rw (c.from-f.ensures, count, c.read_offer.ensures) at c.in_ok-check_standing.ensures.number in
+    let passed = rw (n.0, n.1, n.2, count, c.read_offer.ensures) at c.in_ok-check_standing.ensures.number in
     filed w b p.tested 3 p.call_is (omega arith) (by_next _ _ (standing_parts w b p.call_is) (sym c.requires.is_admitted) passed)
     c.file_standing.new.book
-    (c.file_standing.ensures ∙ rw (c.from-f.ensures, c.from.ensures, count, c.read_offer.ensures) (sym (accept_standing w b p.call_is)))
+    (c.file_standing.ensures ∙ rw (n.1, c.from-s.ensures, n.2, count, c.read_offer.ensures) (sym (accept_standing w b p.call_is)))

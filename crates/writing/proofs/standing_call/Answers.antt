@@ -10,11 +10,13 @@ returns-in_err-check_admission c =
     let w = c.args.book.now in
     let b = c.args.bytes.now in
     let slot = handed_on (sfits_of c.word_at.type_inv) c.word_at.ensures in
+    let n = c.named-series.ensures in
     let x = c.in_err-check_admission in
     refused_by w b c.requires.tested c.from_residual.result x.field-0.0 c.from_residual.ensures.1
-    (by_first _ _ (standing_parts w b c.requires.call_is) x.field-0.0 (rw (c.from.ensures, c.is_slot_refused.ensures, slot) at x.ensures.number))
+    (by_first _ _ (standing_parts w b c.requires.call_is) x.field-0.0 (rw (n.0, n.1, n.2, c.is_slot_refused.ensures, slot) at x.ensures.number))
 
 pub stand-requires : goal.stand-requires
 stand-requires c =
     let slot = handed_on (sfits_of c.word_at.type_inv) c.word_at.ensures in
-    record { place = c.requires; is_admitted = sym (rw (c.from.ensures, c.is_slot_refused.ensures, slot) at c.in_ok-check_admission.ensures.number) }
+    let n = c.named-series.ensures in
+    record { place = c.requires; is_admitted = sym (rw (n.0, n.1, n.2, c.is_slot_refused.ensures, slot) at c.in_ok-check_admission.ensures.number) }

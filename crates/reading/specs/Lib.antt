@@ -1,0 +1,2 @@
+-- What a reader's outcome answers.
+pub mod Answered
