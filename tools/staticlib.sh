@@ -10,7 +10,7 @@ for tool in rt ar; do
 done
 
 # Each crate for C is a static library of its own. One for all would do, but the call and the record test would then share one copy of
-# record_number, which costs every call 16 to 29 instructions.
+# test_record, which costs every call 16 to 29 instructions.
 crates="record_c book_c opening_c periods_c calendar_c"
 parts=$(mktemp -d)
 trap 'rm -rf "$parts"' EXIT

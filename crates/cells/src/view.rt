@@ -12,7 +12,7 @@ use crate::places::{CellPlace, Half};
 use layout::{Slot, cell};
 
 // A book's words, and F and S as they hold them.
-// f and s stay parameters: a total counts through f, and what has both has tested them.
+// f and s are no fields: a total goes through every f, so each method takes those it is of.
 #[derive(Clone, Copy)]
 pub struct Cells<'a> {
     pub words: &'a [i32],

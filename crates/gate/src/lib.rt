@@ -6,10 +6,9 @@ ghost use Rattle.offer_rules.specs.Numbers.{eq_z};
 ghost use Rattle.offer_rules.specs.Kinds.{admits};
 ghost use Rattle.offer_rules.specs.Offer.{pairs_in, all_blank, filled_part, BlanksAfter, BlanksLast};
 ghost use Rattle.offer_rules.specs.Gate.{tenths_of, total_tenths, same_prices, covers, is_open, admits_service, period_covered, total_moved, is_excepted};
-ghost use Rattle.units.specs.Typed.{typed, pair_of};
+ghost use Rattle.units.specs.Typed.{pair_of, pairs_of};
 ghost use Rattle.gate.specs.Differing.{first_differing, tenth_or_none};
 ghost use Rattle.gate.specs.Meaning.{window_of, grounds_of, words_of, IsLent};
-ghost use Rattle.units.specs.Typed.{pairs_of};
 
 use kinds::admits;
 use layout::{Minute, facility, time};

@@ -4,7 +4,7 @@ ghost use Rattle.offer_rules.specs.Offer.{pairs, all_blank, blank_before_filled}
 
 use layout::offer;
 
-// With its reason; "all non-blank pairs come first".
+// An offer with its reason; "all non-blank pairs come first".
 #[derive(Clone, Copy)]
 pub struct Passed<'a> {
     pub reason: u8,

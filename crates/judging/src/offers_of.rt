@@ -43,7 +43,7 @@ impl<'a> Series<'a> {
         }
     }
 
-    // 5, 9 and 10 of an offer, of which it is told whether its slot or its period is refused: 10 comes last, whichever it asks. None of its words is asked for.
+    // 5, 9 and 10 of an offer; of 10 it is told, as a standing offer is asked for its slot and a variation for its period. None of the offer's words is asked for.
     #[tactic(auto, using(layout::proofs::Chains::passed_first, layout::proofs::Chains::refused_first, layout::proofs::Chains::draw_most), unfolding(book_rules::specs::Refusals::admission_number))]
     pub fn check_admission(&self, refused: bool) -> Result<(), Refusal>
         ensures number { drawn result ≡ admission_number (part (facility_place self.now.facility.f) 17 self.now.facility.book.words.now) self.now.service refused }

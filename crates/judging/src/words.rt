@@ -25,7 +25,7 @@ pub struct Book<'a> {
 }
 
 impl<'a> Book<'a> {
-    // F and S: a word each, with the promise of its own.
+    // F and S: a word of the head each, and so a function each.
     pub fn facilities(&self) -> usize
         ensures { result ≡ facilities_in self.now.words.now }
     {

@@ -93,7 +93,7 @@ pub fn kind_row(word: i32) -> Row
     }
 }
 
-// One function a number, each under the name of the rule's word that its callers' contracts cite; they differ in the column alone.
+// A column each, under the name of the rule's word that its callers' contracts cite.
 
 // 5 and 8.
 #[tactic(auto, unfolding(offer_rules::specs::Kinds::kind_row))]

@@ -1,5 +1,5 @@
 -- The text of an answer. Document 01: "Each record .. prints number, word 0, sum, parted by one space."
--- A number's digits are those that the kit's `io::decimal` promises, and what the kit prints of it (proofs/Digits).
+-- A number's digits are those that the kit's `itoa` prints (proofs/Digits).
 use Rattle.std.specs.Prelude.{cond, List, [], ◌∷◌, ◌++◌, ℕ, zero, suc, ◌^◌, ltb, ℤ, pos, negsuc}
 use Rattle.io.specs.Digits.{last_digits, IsDigitCount}
 use Rattle.offer_rules.specs.Numbers.{word}
@@ -23,7 +23,7 @@ count_from (suc tries) k n = cond (ltb n (10 ^ k)) k (count_from tries (suc k) n
 unfoldable pub digit_count : ℕ → ℕ
 digit_count n = count_from n 1 n
 
--- They are the fewest that hold n, and no fewer than one: as many as `io::decimal` promises.
+-- They are the fewest that hold n, and no fewer than one: as many as the kit's printing promises.
 unfoldable pub CountIsFewest : Type 0
 CountIsFewest = (n : ℕ) → IsDigitCount 10 1 n (digit_count n)
 

@@ -1,5 +1,5 @@
 // Answers as lines of text (specs/Text): numbers in decimal, a negative one with a minus sign, parted by one space.
-// What a file or a terminal gets can't be promised. The text that is lent to the writing is, and what a writer holds that says which bytes it holds.
+// What a file or a terminal gets can't be promised. What is promised: the text, and where a writer says which bytes it holds, that these end in the text.
 #![tactic(auto)]
 
 ghost use Rattle.std.specs.Prelude.{◌≡◌, ◌∷◌, ◌++◌, ◌+◌, ◌*◌, ◌≤◌, ◌<◌, length, take, OnOk};

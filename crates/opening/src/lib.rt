@@ -168,7 +168,7 @@ pub fn open(
     Ok(())
 }
 
-// The opening for C, under C's calling convention.
+// The opening as `opening_c` lends it to C: its number.
 pub fn bilzhaan_open(words: &mut [i32], facilities: i32, services: i32, limits: &[i32; 6]) -> u32
     ensures number { result ≡ opening_number words.old facilities services limits.now }
     ensures words { words.new ≡ opening_words words.old facilities services limits.now }

@@ -68,7 +68,7 @@ fn is_record(bytes: &Record) -> bool
     bytes.starts_with(b"SOB\0\x01") && (1..=9).contains(&bytes[CALL])
 }
 
-// The calls that use byte 6, the facility, and byte 7, the service.
+// The calls that use byte 6, the facility, and byte 7, the service. Of each it is told whether it lies outside: the caller has asked, so that most records need no match.
 #[tactic(auto, using(crate::proofs::UnknownCalls::unknown_uses_none), unfolding(book_rules::specs::Record::used))]
 fn is_outside_where_used(call: u8, no_facility: bool, no_service: bool) -> bool
     ensures { (s : ℕ) → result ≡ ((used call s 6 && no_facility) || (used call s 7 && no_service)) }

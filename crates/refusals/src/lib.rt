@@ -106,7 +106,6 @@ pub fn is_kind_refused(held: &[i32; facility::CAPABILITY], kind: i32) -> bool
 }
 
 // "W1–W6 outside 0–99,999; W7, W8 outside 0–9,999; W9–W11 outside 0–1,000"
-
 fn is_maximum_refused(sent: &[i32; facility::CAPABILITY]) -> bool
     ensures { result ≡ maxima_refused sent.now }
 {
@@ -153,7 +152,6 @@ fn any_mark_astray(sent: &[i32; facility::CAPABILITY]) -> bool
 }
 
 // "a mark not 0 or 1; .."
-
 fn is_mark_refused(sent: &[i32; facility::CAPABILITY]) -> bool
     ensures { result ≡ marks_refused sent.now }
 {
