@@ -7,9 +7,9 @@ ghost use Rattle.book_rules.specs.Force.{pairs_of, counted, offered, found, foun
 ghost use Rattle.cells.specs.Meaning.{cell_of, meaning, answer_of};
 
 use crate::answers::Answer;
-use crate::copying::copy_words;
 use crate::held::Cell;
 use layout::{Minute, answer, time};
+use units::copy_words;
 
 // By its cell; specs/Meaning says what each case means.
 #[derive(Clone, Copy)]

@@ -4,7 +4,6 @@
 #![tactic(auto)]
 
 mod answers;
-mod copying;
 mod filing;
 mod held;
 mod in_force;

@@ -5,11 +5,11 @@ ghost use Rattle.offer_rules.specs.Offer.{accepted_at, most_ramp};
 ghost use Rattle.book_rules.specs.Words.{put, cell_place, packed_ramps, ramps_fit, cell};
 ghost use Rattle.cells.specs.Meaning.{Sized, half_number};
 
-use crate::copying::copy_words;
 use crate::filing::Filing;
 use crate::held::pairs_of;
 use crate::places::CellPlace;
 use layout::{cell, offer};
+use units::copy_words;
 
 // "ramp up times 10,000 plus ramp down"
 fn packed_ramps(up: i32, down: i32) -> i32

@@ -14,7 +14,7 @@ use layout::fields::{
 };
 use layout::{Refusal, drawn, facility, head, offer, refuse_if};
 use std::array;
-use units::nat;
+use units::{copy_words, nat};
 
 // A record's 112 bytes.
 pub type Record = [u8; BYTES];
@@ -50,7 +50,10 @@ pub fn read_offer(bytes: &Record, words: &mut [i32; offer::WORDS])
     words[offer::PROPORTION] = i32::from(u16::from_be_bytes(proportion));
     words[offer::RAMP_UP] = word_at(bytes, RAMP_UP);
     words[offer::RAMP_DOWN] = word_at(bytes, RAMP_DOWN);
-    words[offer::PAIRS..].copy_from_slice(&words_at::<PAIR_WORDS>(bytes, W0));
+    copy_words(
+        &mut words[offer::PAIRS..],
+        &words_at::<PAIR_WORDS>(bytes, W0),
+    );
 }
 
 // W0 to W16.

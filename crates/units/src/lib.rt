@@ -91,3 +91,13 @@ pub fn any_beyond(words: &[i32], lo: i32, hi: i32) -> bool
 {
     fold_beyond(words, lo, hi)
 }
+
+// ---- words copied
+
+// As an array: copy_from_slice tests, each time, whether the two overlap.
+pub fn copy_words<const N: usize>(to: &mut [i32], words: &[i32; N])
+    requires { length to.old ≡ N }
+    ensures { to.new ≡ words.now }
+{
+    *to.as_mut_array().unwrap() = *words;
+}
