@@ -7,6 +7,7 @@ use Prim.Native.Nat.{ℕ, zero, suc, ◌+◌, ◌-◌, ◌<◌, ◌≤◌, min}
 use Rattle.std.proofs.Math.Nat.{sub-zero}
 use native.Mathlib.Omega.{arith}
 use borrow.Author.Tests.{le-leb, lt-leb, leb-true, leb-false, eqb-true, eqb-false, eq-eqb, ne_eqb}
+use Rattle.units.proofs.Signs.{eqb_sym}
 use lib.Dec.{leb, eqb}
 use lib.IntN.{ℤ, pos, negsuc}
 use Rattle.offer_rules.specs.Numbers.{eq_z}
@@ -117,13 +118,6 @@ pass_shorter p q a b l k h =
     (split (run p a l) (run q b k) (cut 0 l) (run q (b - a) k) a (smaller_total (cut 0 l) (run q (b - a) k)) (past_run p a l) (λ m. shorter_run q b k a m h))
 
 -- ---- old and new change places
-
-eqb_sym : (a b : ℕ) → eqb a b ≡ eqb b a
-eqb_sym a b = go (eqb b a) refl
-  where
-    go : (t : Bool) → eqb b a ≡ t → eqb a b ≡ t
-    go true e = eq-eqb a b (sym (eqb-true b a e))
-    go false e = ne_eqb a b (λ q. eqb-false b a e (sym q))
 
 eq_z_sym : (x y : ℤ) → eq_z x y ≡ eq_z y x
 eq_z_sym (pos a) (pos b) = eqb_sym a b

@@ -1,5 +1,5 @@
 -- A chain of tests, each left by `?`, against numbers drawn in order.
-use Rattle.std.proofs.Common.{◌≡◌, ◌∙◌, Bool, true, false, ℕ, ◌≤◌, refl, sym, arith}
+use Rattle.std.proofs.Common.{◌≡◌, ◌∙◌, Bool, true, false, ℕ, ◌≤◌, eqb, refl, sym, arith}
 use Rattle.offer_rules.specs.Numbers.{draw, ◌then◌}
 use Rattle.layout.specs.Refusal.{number}
 use Rattle.layout.specs.declared.refusal.Refusal.{Refusal}
@@ -37,6 +37,15 @@ first_wins Date m = refl
 -- One that refuses draws its own.
 pub refused_first : (r : Refusal) (n m : ℕ) → number r ≡ n → (n then m) ≡ number r
 refused_first r n m e = rw (← e) (first_wins r m)
+
+-- Two tests asked together, and a third, are three tests in order.
+pub then_apart : (n m k : ℕ) → ((n then m) then k) ≡ (n then (m then k))
+unfolding ◌then◌
+then_apart n m k = by (eqb n 0) refl
+  where
+    by : (t : Bool) → eqb n 0 ≡ t → ((n then m) then k) ≡ (n then (m then k))
+    by true e = rw e refl
+    by false e = rw (e, e) refl
 
 -- A test draws at most its own number.
 pub draw_most : (applies : Bool) (n : ℕ) → draw applies n ≤ n

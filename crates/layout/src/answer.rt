@@ -1,6 +1,9 @@
 // A look-up's answer: "word 0 is 1 (standing) or 2 (variation)", and "3 for standing and 4 for variation" while it is fresh; the offer's words follow it.
 use crate::offer;
 
+// "24 words"
+pub const WORDS: usize = 24;
+
 pub const STANDING: i32 = 1;
 
 pub const VARIATION: i32 = 2;

@@ -16,6 +16,7 @@ pub const WORDS: usize = 24;
 
 pub const RAMP_UNIT: i32 = 10000;
 
+// `as`, as From is no const function.
 pub const SLOTS: usize = time::SLOTS as usize;
 
 // "16,128·F·S": the cells of a facility for one service, two halves of a cell for each slot.

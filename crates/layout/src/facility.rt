@@ -26,13 +26,3 @@ pub const CAPABILITY: usize = 17;
 pub const OUTAGE: usize = 17;
 
 pub const WORDS: usize = 32;
-
-// "Services: 0 energy; 1, 2, 3 primary, secondary, contingency reserve; 4 regulation."
-// Numbers and no enum: a service is added to a place (W2 + s, the limits, the cells) and held against S, and byte 7 may be any.
-pub const ENERGY: u8 = 0;
-
-pub const PRIMARY_RESERVE: u8 = 1;
-
-pub const CONTINGENCY_RESERVE: u8 = 3;
-
-pub const REGULATION: u8 = 4;

@@ -19,7 +19,9 @@ pub const SYSTEM_STATUS: usize = 9;
 
 pub const LIMITS: usize = 11;
 
-pub const LIMITS_END: usize = 17;
+pub const LIMIT_COUNT: usize = 6;
+
+pub const LIMITS_END: usize = LIMITS + LIMIT_COUNT;
 
 pub const WORDS: usize = 64;
 

@@ -9,7 +9,11 @@ pub mod fields;
 pub mod head;
 pub mod offer;
 pub mod refusal;
+pub mod service;
+pub mod sizes;
 pub mod time;
 
 pub use refusal::{Refusal, drawn, refuse_if};
-pub use time::{Minute, Slot};
+pub use service::Service;
+pub use sizes::Sizes;
+pub use time::{Minute, Period, Slot};

@@ -11,5 +11,11 @@ pub const WORDS: usize = 23;
 
 pub const PAIR_COUNT: usize = 10;
 
+// Their words, price and quantity each.
+pub const PAIR_WORDS: usize = 2 * PAIR_COUNT;
+
+// 8 and 11 "outside 0–99,999": of a maximum and of a quantity
+pub const MOST_QUANTITY: i32 = 99999;
+
 // 14 "also covers a ramp above 9,999"
 pub const MOST_RAMP: i32 = 9999;

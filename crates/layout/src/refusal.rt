@@ -1,5 +1,5 @@
 // Document 01, "Who draws which number", and document 02's number beside them: what a call is refused for.
-ghost use Rattle.std.specs.Prelude.{◌≡◌};
+ghost use Rattle.std.specs.Prelude.{◌≡◌, ◌≤◌};
 ghost use Rattle.offer_rules.specs.Numbers.{draw};
 ghost use Rattle.layout.specs.Refusal.{number, drawn};
 
@@ -70,23 +70,25 @@ pub enum Refusal {
 }
 
 impl Refusal {
-    pub fn number(self) -> u8
+    // Of 32 bits, as C gets it.
+    pub fn number(self) -> u32
         ensures { result ≡ number self }
     {
-        self as u8
+        self as u32
     }
 }
 
-// Refused where a test applies.
+// Refused where a test applies: what is known of it is one condition, so no value could say more than the flag.
 #[tactic(auto, unfolding(offer_rules::specs::Numbers::draw))]
 pub fn refuse_if(applies: bool, refusal: Refusal) -> Result<(), Refusal>
-    ensures { drawn result ≡ draw applies (number refusal) }
+    ensures number { drawn result ≡ draw applies (number refusal) }
+    ensures bound { drawn result ≤ number refusal }
 {
     if applies { Err(refusal) } else { Ok(()) }
 }
 
 // The number that a test or a call returns: 0 where it isn't refused.
-pub fn drawn(outcome: Result<(), Refusal>) -> u8
+pub fn drawn(outcome: Result<(), Refusal>) -> u32
     ensures { result ≡ drawn outcome }
 {
     match outcome {

@@ -1,5 +1,6 @@
 // "Units and time", and the limits of minutes and periods.
-ghost use Rattle.std.specs.Prelude.{◌≡◌, ◌≤◌, ◌<◌};
+// Narrowing stays `as`, proved to lose nothing: a `try_from` would be tested as it runs.
+ghost use Rattle.std.specs.Prelude.{◌≡◌, ◌+◌, ◌≤◌, ◌<◌};
 ghost use Rattle.offer_rules.specs.Time.{slot_of};
 
 pub const PERIOD_MINUTES: u64 = 30;
@@ -20,15 +21,32 @@ pub struct Slot {
     pub ghost in_week: { number < 336 },
 }
 
-impl Slot {
-    pub fn of(period: usize) -> Slot
-        ensures { result.number ≡ slot_of period }
+// A half hour, counted from the start of 2024, that has a stamp: a cell's word holds P + 1.
+#[derive(Clone, Copy, Debug, PartialEq, Eq)]
+pub struct Period {
+    pub number: u64,
+    pub ghost stamped: { number < 2147483647 },
+}
+
+impl Period {
+    pub fn slot(self) -> Slot
+        ensures { result.number ≡ slot_of self.number }
     {
         Slot {
-            number: period % SLOTS as usize,
+            number: (self.number % SLOTS) as usize,
         }
     }
+
+    // "0 stamp (0 empty, 1 standing, P + 1 variation)"
+    pub fn stamp(self) -> u32
+        ensures { (result ≡ self.number + 1) × (result < 2147483648) }
+    {
+        (self.number + 1) as u32
+    }
 }
+
+// "windows 1 to 0 (empty)"
+pub const EMPTY_WINDOW: [i32; 2] = [1, 0];
 
 // "P ≥ 48·(d + 7)"
 pub const HORIZON_DAYS: u64 = 7;

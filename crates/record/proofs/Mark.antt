@@ -3,15 +3,9 @@ use Rattle.std.proofs.Common.{◌≡◌, refl, sym, ℕ, List, [], ◌∷◌, le
 use mathlib.Core.Bool.{and_assoc, and-true}
 use borrow.Author.Tests.{eq-eqb, ne_eqb, eqb-true, eqb-false}
 use Rattle.std.specs.List.{starts_with}
+use Rattle.units.proofs.Signs.{eqb_sym}
 use Rattle.offer_rules.specs.Numbers.{between}
 use Rattle.book_rules.specs.Record.{byte, is_record}
-
-flipped : (a b : ℕ) → eqb a b ≡ eqb b a
-flipped a b = by (eqb b a) refl
-  where
-    by : (t : Bool) → eqb b a ≡ t → eqb a b ≡ t
-    by true e = eq-eqb a b (sym (eqb-true b a e))
-    by false e = ne_eqb a b (λ q. eqb-false b a e (sym q))
 
 pub marked : (b : List ℕ) → length b ≡ 112 → (starts_with eqb b (83 ∷ 79 ∷ 66 ∷ 0 ∷ 1 ∷ []) && between 1 9 (byte b 5)) ≡ is_record b
 unfolding is_record
@@ -21,5 +15,5 @@ marked (p ∷ q ∷ []) h = absurd (omega arith)
 marked (p ∷ q ∷ r ∷ []) h = absurd (omega arith)
 marked (p ∷ q ∷ r ∷ s ∷ []) h = absurd (omega arith)
 marked (p ∷ q ∷ r ∷ s ∷ t ∷ l) h =
-    rw (eq-eqb (length (p ∷ q ∷ r ∷ s ∷ t ∷ l)) 112 h, flipped 83 p, flipped 79 q, flipped 66 r, flipped 0 s, flipped 1 t)
+    rw (eq-eqb (length (p ∷ q ∷ r ∷ s ∷ t ∷ l)) 112 h, eqb_sym 83 p, eqb_sym 79 q, eqb_sym 66 r, eqb_sym 0 s, eqb_sym 1 t)
     (simp (and_assoc, and-true))
