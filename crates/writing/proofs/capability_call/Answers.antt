@@ -1,4 +1,3 @@
-use borrow.Author.Rules.{sfits_of}
 use Rattle.std.proofs.Common.{sym, ◌∙◌, ap, ap₂, ℕ, ℤ, List, Bool}
 use Rattle.units.proofs.Counts.{handed_on}
 use Rattle.offer_rules.specs.Numbers.{draw}
@@ -18,7 +17,7 @@ returns-in_err-refuse_if c =
     let b = c.args.bytes.now in
     let n = c.named-facility.ensures in
     let held = c.capability.ensures ∙ ap₂ (λ (v : List ℤ) (f : ℕ). part (facility_place f) 17 v) n.0 n.1 in
-    let kind = handed_on (sfits_of c.word_at-kind.type_inv) c.word_at-kind.ensures in
+    let kind = handed_on c.word_at-kind.type_inv c.word_at-kind.ensures in
     let x = c.in_err-refuse_if in
     let drawn = x.ensures ∙ ap (λ (t : Bool). draw t 8) (c.is_kind_refused.ensures ∙ ap₂ kind_refused held kind) in
     refused_by w b c.requires.tested c.from_residual.result x.field-0.0 c.from_residual.ensures.1

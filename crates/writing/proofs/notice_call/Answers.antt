@@ -1,4 +1,3 @@
-use borrow.Author.Rules.{sfits_of}
 use Rattle.std.proofs.Common.{◌≡◌, arith, refl, sym, ◌∙◌, ◌+◌, ◌*◌, ◌≤◌}
 use Rattle.units.proofs.Counts.{handed_on}
 use Rattle.book_rules.specs.Record.{reason_of}
@@ -13,8 +12,8 @@ pub returns-in_err-check_notice : goal.returns-in_err-check_notice
 returns-in_err-check_notice c =
     let w = c.args.book.now in
     let b = c.args.bytes.now in
-    let first = handed_on (sfits_of c.word_at-first.type_inv) c.word_at-first.ensures in
-    let last = handed_on (sfits_of c.word_at-last.type_inv) c.word_at-last.ensures in
+    let first = handed_on c.word_at-first.type_inv c.word_at-first.ensures in
+    let last = handed_on c.word_at-last.type_inv c.word_at-last.ensures in
     let x = c.in_err-check_notice in
     refused_by w b c.requires.0 c.from_residual.result x.field-0.0 c.from_residual.ensures.1
     (rw (first, last) at x.ensures.number ∙ sym (judge_notice (book_view w) b c.requires.1))
@@ -27,8 +26,8 @@ pub returns : goal.returns
 returns c =
     let w = c.args.book.now in
     let b = c.args.bytes.now in
-    let first = handed_on (sfits_of c.word_at-first.type_inv) c.word_at-first.ensures in
-    let last = handed_on (sfits_of c.word_at-last.type_inv) c.word_at-last.ensures in
+    let first = handed_on c.word_at-first.type_inv c.word_at-first.ensures in
+    let last = handed_on c.word_at-last.type_inv c.word_at-last.ensures in
     let kind : 3 ≤ reason_of b = (c.in_ok-check_notice.ensures.passed refl).0 in
     let place : 5 + 2 * c.from.result ≡ notice_place (reason_of b) = omega (arith, c.from.ensures) in
     filed w b c.requires.0 6 c.requires.1 (omega arith) (rw (first, last) at c.in_ok-check_notice.ensures.number ∙ sym (judge_notice (book_view w) b c.requires.1))

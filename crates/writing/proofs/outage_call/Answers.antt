@@ -1,4 +1,3 @@
-use borrow.Author.Rules.{sfits_of}
 use Rattle.std.proofs.Common.{arith, refl, sym, ◌∙◌}
 use Rattle.units.proofs.Counts.{handed_on}
 use Rattle.book_rules.specs.Book.{book_view}
@@ -22,8 +21,8 @@ unfolding book_view
 returns-in_err-check_outage c =
     let w = c.args.book.now in
     let b = c.args.bytes.now in
-    let minute = handed_on (sfits_of c.word_at-minute.type_inv) c.word_at-minute.ensures in
-    let count = handed_on (sfits_of c.word_at-count.type_inv) c.word_at-count.ensures in
+    let minute = handed_on c.word_at-minute.type_inv c.word_at-minute.ensures in
+    let count = handed_on c.word_at-count.type_inv c.word_at-count.ensures in
     let n = c.named-facility.ensures in
     let kind = rw (n.0, n.1) at c.in_ok-check_kind.ensures.number in
     let x = c.in_err-check_outage in
@@ -39,8 +38,8 @@ unfolding book_view
 returns c =
     let w = c.args.book.now in
     let b = c.args.bytes.now in
-    let minute = handed_on (sfits_of c.word_at-minute.type_inv) c.word_at-minute.ensures in
-    let count = handed_on (sfits_of c.word_at-count.type_inv) c.word_at-count.ensures in
+    let minute = handed_on c.word_at-minute.type_inv c.word_at-minute.ensures in
+    let count = handed_on c.word_at-count.type_inv c.word_at-count.ensures in
     let n = c.named-facility.ensures in
     let kind = rw (n.0, n.1) at c.in_ok-check_kind.ensures.number in
     let outage = rw (c.clock.ensures, c.capability.ensures, n.0, n.1, minute, count) at c.in_ok-check_outage.ensures.number in

@@ -1,4 +1,3 @@
-use borrow.Author.Rules.{sfits_of}
 use Rattle.std.proofs.Common.{◌≡◌, ◌<◌, arith, sym, ◌∙◌, ap, inl}
 use Rattle.units.proofs.Counts.{handed_on}
 use Rattle.offer_rules.specs.Numbers.{to_nat}
@@ -14,7 +13,7 @@ use Rattle.writing.proofs.stand.Goals as goal
 pub invariant_of-slot : goal.invariant_of-slot
 invariant_of-slot c =
     let b = c.args.bytes.now in
-    let count : c.nat.result ≡ to_nat (period_word b) = c.nat.ensures.0 ∙ ap to_nat (handed_on (sfits_of c.word_at.type_inv) c.word_at.ensures) in
+    let count : c.nat.result ≡ to_nat (period_word b) = c.nat.ensures.0 ∙ ap to_nat (handed_on c.word_at.type_inv c.word_at.ensures) in
     let slot_in : to_nat (period_word b) < 336 = (slot_is (period_word b) (admitted _ _ _ c.requires.is_admitted)).1 in
     record { in_week = omega (arith, count, slot_in) }
 
@@ -30,7 +29,7 @@ returns-in_err-check_standing c =
     let b = c.args.bytes.now in
     let p = c.requires.place in
     let n = c.named-series.ensures in
-    let count : c.nat.result ≡ to_nat (period_word b) = c.nat.ensures.0 ∙ ap to_nat (handed_on (sfits_of c.word_at.type_inv) c.word_at.ensures) in
+    let count : c.nat.result ≡ to_nat (period_word b) = c.nat.ensures.0 ∙ ap to_nat (handed_on c.word_at.type_inv c.word_at.ensures) in
     let x = c.in_err-check_standing in
     refused_by w b p.tested c.from_residual.result x.field-0.0 c.from_residual.ensures.1
     (by_next _ _ (standing_parts w b p.call_is) (sym c.requires.is_admitted) (rw (n.0, n.1, n.2, count, c.read_offer.ensures) at x.ensures.number))
@@ -41,7 +40,7 @@ file_standing-requires c =
     let b = c.args.bytes.now in
     let p = c.requires.place in
     let n = c.named-series.ensures in
-    let count : c.nat.result ≡ to_nat (period_word b) = c.nat.ensures.0 ∙ ap to_nat (handed_on (sfits_of c.word_at.type_inv) c.word_at.ensures) in
+    let count : c.nat.result ≡ to_nat (period_word b) = c.nat.ensures.0 ∙ ap to_nat (handed_on c.word_at.type_inv c.word_at.ensures) in
     let passed = rw (n.0, n.1, n.2, count, c.read_offer.ensures) at c.in_ok-check_standing.ensures.number in
     rw (n.1, c.from-s.ensures, n.2, c.read_offer.ensures)
     (p.tested.usable, p.facility_in, p.service_in, standing_ramps w b p.tested p.call_is (to_nat (period_word b)) passed)
@@ -52,7 +51,7 @@ returns c =
     let b = c.args.bytes.now in
     let p = c.requires.place in
     let n = c.named-series.ensures in
-    let count : c.nat.result ≡ to_nat (period_word b) = c.nat.ensures.0 ∙ ap to_nat (handed_on (sfits_of c.word_at.type_inv) c.word_at.ensures) in
+    let count : c.nat.result ≡ to_nat (period_word b) = c.nat.ensures.0 ∙ ap to_nat (handed_on c.word_at.type_inv c.word_at.ensures) in
     let passed = rw (n.0, n.1, n.2, count, c.read_offer.ensures) at c.in_ok-check_standing.ensures.number in
     filed w b p.tested 3 p.call_is (omega arith) (by_next _ _ (standing_parts w b p.call_is) (sym c.requires.is_admitted) passed)
     c.file_standing.new.book

@@ -1,4 +1,3 @@
-use borrow.Author.Rules.{sfits_of}
 use Rattle.std.proofs.Common.{sym}
 use Rattle.units.proofs.Counts.{handed_on}
 use Rattle.judging.proofs.Answering.{by_first, refused_by}
@@ -9,7 +8,7 @@ pub returns-in_err-check_admission : goal.returns-in_err-check_admission
 returns-in_err-check_admission c =
     let w = c.args.book.now in
     let b = c.args.bytes.now in
-    let slot = handed_on (sfits_of c.word_at.type_inv) c.word_at.ensures in
+    let slot = handed_on c.word_at.type_inv c.word_at.ensures in
     let n = c.named-series.ensures in
     let x = c.in_err-check_admission in
     refused_by w b c.requires.tested c.from_residual.result x.field-0.0 c.from_residual.ensures.1
@@ -17,6 +16,6 @@ returns-in_err-check_admission c =
 
 pub stand-requires : goal.stand-requires
 stand-requires c =
-    let slot = handed_on (sfits_of c.word_at.type_inv) c.word_at.ensures in
+    let slot = handed_on c.word_at.type_inv c.word_at.ensures in
     let n = c.named-series.ensures in
     record { place = c.requires; is_admitted = sym (rw (n.0, n.1, n.2, c.is_slot_refused.ensures, slot) at c.in_ok-check_admission.ensures.number) }

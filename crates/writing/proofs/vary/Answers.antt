@@ -1,4 +1,3 @@
-use borrow.Author.Rules.{sfits_of}
 use Rattle.std.proofs.Common.{◌≡◌, arith, refl, sym, ◌∙◌, ap, inr}
 use Rattle.units.proofs.Counts.{handed_on}
 use Rattle.offer_rules.specs.Numbers.{to_nat, word}
@@ -38,7 +37,7 @@ check_variation_gate-requires c =
     let w = c.args.book.now in
     let b = c.args.bytes.now in
     let t = c.requires.place.tested.usable.timely in
-    let count : c.nat-period.result ≡ to_nat (period_word b) = c.nat-period.ensures.0 ∙ ap to_nat (handed_on (sfits_of c.word_at.type_inv) c.word_at.ensures) in
+    let count : c.nat-period.result ≡ to_nat (period_word b) = c.nat-period.ensures.0 ∙ ap to_nat (handed_on c.word_at.type_inv c.word_at.ensures) in
     omega (arith, count, (period_is (to_nat (word w clock_place)) (period_word b) (admitted _ _ _ c.requires.is_admitted)).2, t)
 
 pub returns-in_err-check_variation_gate : goal.returns-in_err-check_variation_gate
@@ -47,7 +46,7 @@ returns-in_err-check_variation_gate c =
     let b = c.args.bytes.now in
     let p = c.requires.place in
     let n = c.named-series.ensures in
-    let count : c.nat-period.result ≡ to_nat (period_word b) = c.nat-period.ensures.0 ∙ ap to_nat (handed_on (sfits_of c.word_at.type_inv) c.word_at.ensures) in
+    let count : c.nat-period.result ≡ to_nat (period_word b) = c.nat-period.ensures.0 ∙ ap to_nat (handed_on c.word_at.type_inv c.word_at.ensures) in
     let passed = rw (n.0, n.1, n.2, c.read_offer.ensures) at c.in_ok-check_offer.ensures.number in
     let x = c.in_err-check_variation_gate in
     refused_by w b p.tested c.from_residual-in_err-check_variation_gate.result x.field-0.0 c.from_residual-in_err-check_variation_gate.ensures.1
@@ -59,7 +58,7 @@ file_variation-requires c =
     let b = c.args.bytes.now in
     let p = c.requires.place in
     let n = c.named-series.ensures in
-    let count : c.nat-period.result ≡ to_nat (period_word b) = c.nat-period.ensures.0 ∙ ap to_nat (handed_on (sfits_of c.word_at.type_inv) c.word_at.ensures) in
+    let count : c.nat-period.result ≡ to_nat (period_word b) = c.nat-period.ensures.0 ∙ ap to_nat (handed_on c.word_at.type_inv c.word_at.ensures) in
     let period_in = (period_is (to_nat (word w clock_place)) (period_word b) (admitted _ _ _ c.requires.is_admitted)).2 in
     let passed = rw (n.0, n.1, n.2, c.read_offer.ensures) at c.in_ok-check_offer.ensures.number in
     rw (n.1, c.from-s.ensures, n.2, count, c.read_offer.ensures)
@@ -71,7 +70,7 @@ returns c =
     let b = c.args.bytes.now in
     let p = c.requires.place in
     let n = c.named-series.ensures in
-    let count : c.nat-period.result ≡ to_nat (period_word b) = c.nat-period.ensures.0 ∙ ap to_nat (handed_on (sfits_of c.word_at.type_inv) c.word_at.ensures) in
+    let count : c.nat-period.result ≡ to_nat (period_word b) = c.nat-period.ensures.0 ∙ ap to_nat (handed_on c.word_at.type_inv c.word_at.ensures) in
     let passed = rw (n.0, n.1, n.2, c.read_offer.ensures) at c.in_ok-check_offer.ensures.number in
     let gate = rw (n.0, n.1, n.2, count, c.read_offer.ensures) at c.in_ok-check_variation_gate.ensures.number in
     filed w b p.tested 4 p.call_is (omega arith) (by_next _ _ (admitted_parts w b p.call_is c.requires.is_admitted) passed gate)
