@@ -6,13 +6,11 @@ ghost use Rattle.layout.specs.Refusal.{drawn};
 ghost use Rattle.book_rules.specs.Book.{book_answer, book_after};
 ghost use Rattle.cells.specs.Meaning.{answer_of};
 ghost use Rattle.reading.specs.Answered.{answered};
-ghost use Rattle.book_rules.specs.Words.{book_version};
 ghost use Rattle.book.specs.Tests.{tested_number};
-ghost use Rattle.book.specs.Version.{library_version};
 
-use cells::{Answer, plain};
+use cells::Answer;
 use judging::Book;
-use layout::{Refusal, drawn, fields, head, refuse_if};
+use layout::{Refusal, fields, refuse_if};
 use opening::is_book;
 use reading::{look_up_call, total_call};
 use record::{Record, test_record};
@@ -53,13 +51,13 @@ pub fn call(book: &mut [i32], bytes: &[u8]) -> Answer
     };
     let call = bytes[fields::CALL];
     match call {
-        1 => return plain(drawn(clock_call(book, bytes))),
-        2 => return plain(drawn(capability_call(book, bytes))),
-        3 => return plain(drawn(standing_call(book, bytes))),
-        4 => return plain(drawn(variation_call(book, bytes))),
-        5 => return plain(drawn(outage_call(book, bytes))),
-        6 => return plain(drawn(notice_call(book, bytes))),
-        7 => return plain(drawn(withdrawal_call(book, bytes))),
+        1 => return Answer::from(clock_call(book, bytes)),
+        2 => return Answer::from(capability_call(book, bytes)),
+        3 => return Answer::from(standing_call(book, bytes)),
+        4 => return Answer::from(variation_call(book, bytes)),
+        5 => return Answer::from(outage_call(book, bytes)),
+        6 => return Answer::from(notice_call(book, bytes)),
+        7 => return Answer::from(withdrawal_call(book, bytes)),
         8 => return answered(look_up_call(book, bytes)),
         9 => return answered(total_call(book, bytes)),
         0 | 10..=255 => return Answer::from(Refusal::NotARecord),
@@ -67,17 +65,4 @@ pub fn call(book: &mut [i32], bytes: &[u8]) -> Answer
 }
 
 // 1.7.0, for C to hold against its header's.
-const LIBRARY_VERSION: u32 = 10700;
-
-pub fn bilzhaan_version() -> u32
-    ensures { result ≡ library_version }
-{
-    LIBRARY_VERSION
-}
-
-// Head word 1 of the books that this library opens and reads.
-pub fn bilzhaan_book_version() -> i32
-    ensures { result ≡ book_version }
-{
-    head::BOOK_VERSION
-}
+pub const LIBRARY_VERSION: u32 = 10700;

@@ -7,13 +7,15 @@ ghost use Rattle.book_rules.specs.Words.{book_version};
 ghost use Rattle.cells.specs.Meaning.{answer_of};
 ghost use Rattle.book.specs.Version.{library_version};
 
+use book::{LIBRARY_VERSION, call};
 use cells::Answer;
+use layout::head;
 
 #[unsafe(no_mangle)]
 pub extern "C" fn bilzhaan_call(words: &mut [i32], bytes: &[u8]) -> Answer
     ensures { (answer_of result ≡ book_answer words.old bytes.now) × (words.new ≡ book_after words.old bytes.now) }
 {
-    book::call(words, bytes)
+    call(words, bytes)
 }
 
 // What a gateway may hold against its header's BILZHAAN_VERSION.
@@ -21,7 +23,7 @@ pub extern "C" fn bilzhaan_call(words: &mut [i32], bytes: &[u8]) -> Answer
 pub extern "C" fn bilzhaan_version() -> u32
     ensures { result ≡ library_version }
 {
-    book::bilzhaan_version()
+    LIBRARY_VERSION
 }
 
 // Head word 1 of the books that this library opens and reads.
@@ -29,5 +31,5 @@ pub extern "C" fn bilzhaan_version() -> u32
 pub extern "C" fn bilzhaan_book_version() -> i32
     ensures { result ≡ book_version }
 {
-    book::bilzhaan_book_version()
+    head::BOOK_VERSION
 }

@@ -1,5 +1,5 @@
 // The two calls that read (8 and 9), on a book that passes 1 by a record that passes 2, 3 and 4: "Calls 8 and 9 write none."
-// Each returns its Answer: a Result of one would be copied, 112 bytes. `nat(..) as usize` loses nothing: of u64 and usize there is no From.
+// Each returns its Answer: a Result of one would be copied, 112 bytes.
 #![tactic(auto)]
 
 ghost use Rattle.std.specs.Prelude.{◌≡◌, ◌<◌, Some, IfOk};
@@ -16,8 +16,7 @@ ghost use Rattle.judging.specs.Tested.{Tested, Place};
 use cells::{Answer, InForce};
 use judging::{Book, Series};
 use layout::{Refusal, fields};
-use record::{Record, word_at};
-use units::nat;
+use record::{Record, period_word};
 
 // 5, 10 and 19; the offer in force.
 #[tactic(auto, using(layout::proofs::Chains::passed_first, layout::proofs::Chains::refused_first, crate::proofs::LookUpNumber::force_drawn), unfolding(book_rules::specs::Refusals::look_up_number, book_rules::specs::Book::book_view))]
@@ -27,11 +26,9 @@ fn asked<'a>(series: Series<'a>, period: i32) -> Result<InForce<'a>, Refusal>
 {
     let book = series.facility.book;
     series.facility.check_kind()?;
-    book.check_period(period)?;
-    let s = usize::from(series.service);
-    let offer = book
-        .cells()
-        .in_force(series.facility.f, s, nat(period) as usize);
+    let period = book.check_period(period)?;
+    let s = series.service.place();
+    let offer = book.cells().in_force(series.facility.f, s, period);
     offer.ok_or(Refusal::NothingInForce)
 }
 
@@ -41,7 +38,7 @@ pub fn look_up_call(book: &[i32], bytes: &Record) -> Result<Answer, Refusal>
     ensures { answered result ≡ book_answer book.now bytes.now }
 {
     let series = Series::named(book, bytes);
-    let offer = asked(series, word_at(bytes, fields::PERIOD))?;
+    let offer = asked(series, period_word(bytes))?;
     Ok(offer.look_up(series.facility.book.clock()))
 }
 
@@ -52,7 +49,6 @@ pub fn total_call(book: &[i32], bytes: &Record) -> Result<Answer, Refusal>
 {
     let book = Book { words: book };
     let service = usize::from(bytes[fields::SERVICE]);
-    let period = word_at(bytes, fields::PERIOD);
-    book.check_period(period)?;
-    Ok(book.cells().total(service, nat(period) as usize))
+    let period = book.check_period(period_word(bytes))?;
+    Ok(book.cells().total(service, period))
 }

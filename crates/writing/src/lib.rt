@@ -1,6 +1,5 @@
 // The seven calls that write (1 to 7), on a book that passes 1 by a record that passes 2, 3 and 4.
 // Each is refused and writes nothing, or writes what it files. The book is the `&mut [i32]` that document 01 names, so what has been tested of it is asked for, in one word a call.
-// Conversions stay `as`, proved to lose nothing: of u64 and usize there is no From, and a `try_from` would be tested as it runs.
 #![tactic(auto)]
 
 ghost use Rattle.std.specs.Prelude.{◌≡◌, true, ◌≤◌, ◌<◌};
@@ -17,11 +16,10 @@ ghost use Rattle.judging.specs.Usable.{Usable};
 ghost use Rattle.judging.specs.Tested as tested;
 
 use cells::{CellPlace, Filing, Half, store_offer, store_words};
-use judging::{Book, Facility, Passed, Series};
-use layout::{Minute, Refusal, Slot, cell, facility, fields, head, offer, refuse_if};
-use offers::{is_period_refused, is_slot_refused};
-use record::{Record, capability_in, read_offer, word_at};
-use units::nat;
+use judging::{Book, Facility, Series};
+use layout::{Minute, Period, Refusal, Slot, cell, facility, fields, head, offer, refuse_if, time};
+use offers::Passed;
+use record::{Record, capability_in, period_word, read_offer, word_at};
 
 // 6; files the minute.
 pub fn clock_call(book: &mut [i32], bytes: &Record) -> Result<(), Refusal>
@@ -67,10 +65,8 @@ fn file_offer(book: &mut [i32], place: CellPlace, filing: Filing<'_>)
     requires { Usable book.old × (place.f < facilities_in book.old) × (place.s < services_in book.old) }
     ensures { book.new ≡ write_cell book.old place.f place.s (half_number place.half) place.slot.number (cell filing.entry.stamp (accepted_at filing.entry.minute.number filing.entry.offer.now)) }
 {
-    let view = Book { words: book };
-    let facilities = view.facilities();
-    let services = view.services();
-    store_offer(book, facilities, services, place, filing);
+    let sizes = Book { words: book }.sizes();
+    store_offer(book, sizes, place, filing);
 }
 
 fn file_standing(book: &mut [i32], f: usize, s: usize, slot: Slot, offer: &[i32; offer::WORDS])
@@ -87,19 +83,17 @@ fn file_standing(book: &mut [i32], f: usize, s: usize, slot: Slot, offer: &[i32;
 }
 
 // 11 to 18 of a standing offer that is admitted; files one cell.
-fn stand(book: &mut [i32], bytes: &Record) -> Result<(), Refusal>
-    requires { tested.Admitted book.old bytes.now 3 (slot_refused (period_word bytes.now)) }
+fn stand(book: &mut [i32], bytes: &Record, slot: Slot) -> Result<(), Refusal>
+    requires admitted { tested.Admitted book.old bytes.now 3 (slot_refused (period_word bytes.now)) }
+    requires slot { slot.number ≡ to_nat (period_word bytes.now) }
     ensures { (plain (drawn result) ≡ book_answer book.old bytes.now) × (book.new ≡ book_after book.old bytes.now) }
 {
-    let slot = Slot {
-        number: nat(word_at(bytes, fields::PERIOD)) as usize,
-    };
     let mut offer = [0i32; offer::WORDS];
     read_offer(bytes, &mut offer);
     let series = Series::named(book, bytes);
     series.check_standing(slot, bytes[fields::REASON], &offer)?;
     let f = series.facility.f;
-    let s = usize::from(series.service);
+    let s = series.service.place();
     file_standing(book, f, s, slot, &offer);
     Ok(())
 }
@@ -110,19 +104,19 @@ pub fn standing_call(book: &mut [i32], bytes: &Record) -> Result<(), Refusal>
     ensures { (plain (drawn result) ≡ book_answer book.old bytes.now) × (book.new ≡ book_after book.old bytes.now) }
 {
     let series = Series::named(book, bytes);
-    series.check_admission(is_slot_refused(word_at(bytes, fields::PERIOD)))?;
-    stand(book, bytes)
+    let slot = series.admit_standing(period_word(bytes))?;
+    stand(book, bytes, slot)
 }
 
 // Where its pairs are all blank, "Its cell becomes 24 zeros." "The slot of P is P mod 336."
-fn file_variation(book: &mut [i32], f: usize, s: usize, period: usize, filed: Passed<'_>)
-    requires { Usable book.old × (f < facilities_in book.old) × (s < services_in book.old) × (period < 2147483647) × (ramps_fit filed.offer.now ≡ true) }
-    ensures { book.new ≡ file_variation book.old f s period filed.entry.offer.now }
+fn file_variation(book: &mut [i32], f: usize, s: usize, period: Period, filed: Passed<'_>)
+    requires { Usable book.old × (f < facilities_in book.old) × (s < services_in book.old) × (ramps_fit filed.offer.now ≡ true) }
+    ensures { book.new ≡ file_variation book.old f s period.number filed.entry.offer.now }
 {
     let half = Half::Variation;
-    let slot = Slot::of(period);
+    let slot = period.slot();
     let place = CellPlace { f, s, half, slot };
-    let stamp = (period + 1) as u32;
+    let stamp = period.stamp();
     if filed.is_all_blank() {
         let none = [0i32; offer::WORDS];
         let filing = Filing {
@@ -141,23 +135,18 @@ fn file_variation(book: &mut [i32], f: usize, s: usize, period: usize, filed: Pa
 }
 
 // 11 to 17 of a variation that is admitted; files one cell.
-fn vary(book: &mut [i32], bytes: &Record) -> Result<(), Refusal>
-    requires { tested.Admitted book.old bytes.now 4 (period_refused (to_nat (word book.old clock_place)) (period_word bytes.now)) }
+fn vary(book: &mut [i32], bytes: &Record, period: Period) -> Result<(), Refusal>
+    requires admitted { tested.Admitted book.old bytes.now 4 (period_refused (to_nat (word book.old clock_place)) (period_word bytes.now)) }
+    requires period { period.number ≡ to_nat (period_word bytes.now) }
     ensures { (plain (drawn result) ≡ book_answer book.old bytes.now) × (book.new ≡ book_after book.old bytes.now) }
 {
-    let period = nat(word_at(bytes, fields::PERIOD)) as usize;
-    let reason = bytes[fields::REASON];
     let mut offer = [0i32; offer::WORDS];
     read_offer(bytes, &mut offer);
     let series = Series::named(book, bytes);
-    series.check_offer(reason, &offer)?;
-    let filed = Passed {
-        reason,
-        offer: &offer,
-    };
+    let filed = series.check_offer(bytes[fields::REASON], &offer)?;
     series.check_variation_gate(period, filed)?;
     let f = series.facility.f;
-    let s = usize::from(series.service);
+    let s = series.service.place();
     file_variation(book, f, s, period, filed);
     Ok(())
 }
@@ -168,9 +157,8 @@ pub fn variation_call(book: &mut [i32], bytes: &Record) -> Result<(), Refusal>
     ensures { (plain (drawn result) ≡ book_answer book.old bytes.now) × (book.new ≡ book_after book.old bytes.now) }
 {
     let series = Series::named(book, bytes);
-    let clock = series.facility.book.clock();
-    series.check_admission(is_period_refused(clock.number, word_at(bytes, fields::PERIOD)))?;
-    vary(book, bytes)
+    let period = series.admit_variation(period_word(bytes))?;
+    vary(book, bytes, period)
 }
 
 // 5 and 7; files the facility's window.
@@ -208,6 +196,6 @@ pub fn withdrawal_call(book: &mut [i32], bytes: &Record) -> Result<(), Refusal>
     ensures { (plain (drawn result) ≡ book_answer book.old bytes.now) × (book.new ≡ book_after book.old bytes.now) }
 {
     refusals::check_withdrawal(bytes[fields::REASON])?;
-    store_words(book, head::SYSTEM_STATUS, &[1, 0]);
+    store_words(book, head::SYSTEM_STATUS, &time::EMPTY_WINDOW);
     Ok(())
 }

@@ -19,6 +19,6 @@ returns-in_err-refuse_if c =
     let held = c.capability.ensures ∙ ap₂ (λ (v : List ℤ) (f : ℕ). part (facility_place f) 17 v) n.0 n.1 in
     let kind = handed_on c.word_at-kind.type_inv c.word_at-kind.ensures in
     let x = c.in_err-refuse_if in
-    let drawn = x.ensures ∙ ap (λ (t : Bool). draw t 8) (c.is_kind_refused.ensures ∙ ap₂ kind_refused held kind) in
+    let drawn = x.ensures.number ∙ ap (λ (t : Bool). draw t 8) (c.is_kind_refused.ensures ∙ ap₂ kind_refused held kind) in
     refused_by w b c.requires.tested c.from_residual.result x.field-0.0 c.from_residual.ensures.1
     (sent_kind_drawn x.field-0.0 (part (facility_place (facility_of b)) 17 w) b drawn ∙ sym (judge_capability (book_view w) b c.requires.call_is))
