@@ -28,7 +28,7 @@ returns-then-five-lt5-clause-found c =
           sym (five_stop a.self.now.limits.lowest a.self.now.limits.highest p.result.now l p.ensures.each.0 p.ensures.each.1 five h w.if-five-lt5.true)
       | then-five-lt5-via-else-five-lt5+then-do_five_suffice w ↦
           sym (five_pass a.self.now.limits.lowest a.self.now.limits.highest p.result.now l p.ensures.each.0 p.ensures.each.1 five h w.if-five-lt5.false
-          ∙ five_suffice a.self.now.limits.lowest a.self.now.limits.highest p.result.now l p.ensures.each.0 p.ensures.each.1 a.self.now.service p.ensures.unused five (sym w.do_five_suffice.ensures ∙ w.if-do_five_suffice.true))
+          ∙ five_suffice a.self.now.limits.lowest a.self.now.limits.highest p.result.now l p.ensures.each.0 p.ensures.each.1 a.self.now.service.number p.ensures.unused five (sym w.do_five_suffice.ensures ∙ w.if-do_five_suffice.true))
     ]
 
 pub returns-clause-found : goal.returns-clause-found
@@ -52,4 +52,4 @@ returns-clause-within c =
     c.walk-2.ensures.found
     ∙ ap (λ ws. found_from a.self.now.limits.lowest a.self.now.limits.highest five (pairs_of ws)) (take_all 5 (drop 5 p.result.now) (omega (arith, length-drop 5 p.result.now)))
     in
-    used_counted a.self.now.limits.lowest a.self.now.limits.highest p.result.now (pairs a.self.now.offer.now) p.ensures.each.0 p.ensures.each.1 a.self.now.service p.ensures.unused five m c.walk-2.result found (IfOk-weaker c.walk-2.result _ _ (λ f h. omega (arith, h.0, length-drop 5 p.result.now)) c.walk-2.ensures.within)
+    used_counted a.self.now.limits.lowest a.self.now.limits.highest p.result.now (pairs a.self.now.offer.now) p.ensures.each.0 p.ensures.each.1 a.self.now.service.number p.ensures.unused five m c.walk-2.result found (IfOk-weaker c.walk-2.result _ _ (λ f h. omega (arith, h.0, length-drop 5 p.result.now)) c.walk-2.ensures.within)
