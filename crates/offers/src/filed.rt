@@ -12,6 +12,9 @@ use crate::walk::{Findings, walk};
 use layout::{Refusal, Service, offer};
 use units::Pair;
 
+// "for 1 to 3 the proportion and five pairs; for 4 five pairs"
+const FEWER_PAIRS: usize = 5;
+
 #[derive(Clone, Copy, Debug, PartialEq, Eq)]
 pub struct Filed<'a> {
     pub service: Service,
@@ -41,7 +44,7 @@ impl<'a> Filed<'a> {
         if self.service.is_energy() {
             offer::PAIR_COUNT
         } else {
-            offer::PAIR_COUNT / 2
+            FEWER_PAIRS
         }
     }
 
@@ -61,11 +64,11 @@ impl<'a> Filed<'a> {
         ensures within { IfOk result (λ f. f.filled ≤ used_pairs self.now.service.number) }
     {
         let pairs = self.pairs();
-        let five = walk(self.limits, Findings::NONE_YET, &pairs[..5])?;
-        if five.filled < 5 || self.do_five_suffice() {
+        let five = walk(self.limits, Findings::NONE_YET, &pairs[..FEWER_PAIRS])?;
+        if five.filled < FEWER_PAIRS || self.do_five_suffice() {
             return Ok(five);
         }
-        walk(self.limits, five, &pairs[5..])
+        walk(self.limits, five, &pairs[FEWER_PAIRS..])
     }
 
     // ---- 11 to 13: all pairs
