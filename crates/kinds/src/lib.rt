@@ -31,7 +31,7 @@ impl TryFrom<i32> for Kind {
     }
 }
 
-// From first to last; copied, which std's RangeInclusive, an iterator, isn't.
+// From first to last; copied, which std's RangeInclusive, an iterator, isn't. It is over bytes, by the rule's `is_in`; `gate::Window` over words, by its `covers`.
 #[derive(Clone, Copy, Debug, PartialEq, Eq)]
 pub struct Range {
     pub first: u8,
@@ -47,17 +47,17 @@ impl Range {
 }
 
 #[derive(Clone, Copy, Debug, PartialEq, Eq)]
-pub struct Row {
-    pub offers: Range,
-    pub marks: Range,
-    pub reasons: Range,
-    pub longest_outage: i32,
-    pub proportion_tested: bool,
+struct Row {
+    offers: Range,
+    marks: Range,
+    reasons: Range,
+    longest_outage: i32,
+    proportion_tested: bool,
 }
 
 // The row of a facility's word W0.
 #[tactic(auto, unfolding(offer_rules::specs::Kinds::kind_row))]
-pub fn kind_row(word: i32) -> Row
+fn kind_row(word: i32) -> Row
     ensures { row_of (is_kind word) result ≡ kind_row word }
 {
     match Kind::try_from(word) {
