@@ -5,7 +5,6 @@ ghost use Rattle.std.specs.Prelude.{◌≡◌, IfOk};
 ghost use Rattle.layout.specs.Refusal.{drawn};
 ghost use Rattle.book_rules.specs.Book.{book_answer, book_after};
 ghost use Rattle.cells.specs.Meaning.{answer_of};
-ghost use Rattle.reading.specs.Answered.{answered};
 ghost use Rattle.book.specs.Tests.{tested_number};
 
 use cells::Answer;
@@ -30,16 +29,6 @@ fn tested<'a>(book: &[i32], bytes: &'a [u8]) -> Result<&'a Record, Refusal>
     test_record(bytes, book.facilities() as u64, book.services() as u64)
 }
 
-// An answer, or a refusal's number alone.
-fn answered(outcome: Result<Answer, Refusal>) -> Answer
-    ensures { answer_of result ≡ answered outcome }
-{
-    match outcome {
-        Ok(answer) => answer,
-        Err(refusal) => Answer::from(refusal),
-    }
-}
-
 // One call, for all words and bytes: 1 to 4, then the call's own. "Byte 5 selects among nine calls"; refusal 2 leaves no other.
 // Each case returns its answer itself: answers that meet in a local are copied from there to the caller's 112 bytes.
 pub fn call(book: &mut [i32], bytes: &[u8]) -> Answer
@@ -58,8 +47,8 @@ pub fn call(book: &mut [i32], bytes: &[u8]) -> Answer
         5 => return Answer::from(outage_call(book, bytes)),
         6 => return Answer::from(notice_call(book, bytes)),
         7 => return Answer::from(withdrawal_call(book, bytes)),
-        8 => return answered(look_up_call(book, bytes)),
-        9 => return answered(total_call(book, bytes)),
+        8 => return Answer::from(look_up_call(book, bytes)),
+        9 => return Answer::from(total_call(book, bytes)),
         0 | 10..=255 => return Answer::from(Refusal::NotARecord),
     }
 }

@@ -1,5 +1,4 @@
 // The two calls that read (8 and 9), on a book that passes 1 by a record that passes 2, 3 and 4: "Calls 8 and 9 write none."
-// Each returns its Answer: a Result of one would be copied, 112 bytes.
 #![tactic(auto)]
 
 ghost use Rattle.std.specs.Prelude.{◌≡◌, ◌<◌, Some, IfOk};
@@ -9,8 +8,7 @@ ghost use Rattle.book_rules.specs.Record.{call_of, service_of};
 ghost use Rattle.book_rules.specs.Force.{in_force};
 ghost use Rattle.book_rules.specs.Refusals.{look_up_number};
 ghost use Rattle.book_rules.specs.Book.{services_in, book_view, book_answer};
-ghost use Rattle.cells.specs.Meaning.{meaning};
-ghost use Rattle.reading.specs.Answered.{answered};
+ghost use Rattle.cells.specs.Meaning.{meaning, answered};
 ghost use Rattle.judging.specs.Tested.{Tested, Place};
 
 use cells::{Answer, InForce};

@@ -1,2 +1,0 @@
--- What a reader's outcome answers.
-pub mod Answered
