@@ -1,5 +1,5 @@
 // A cell: its words are decoded here, and stores' write_cell encodes them; nothing else knows their order.
-ghost use Rattle.std.specs.Prelude.{◌≡◌, true, ◌&&◌, ◌≤◌, ◌<◌, pos, nat_abs, drop, fold, zip};
+ghost use Rattle.std.specs.Prelude.{◌≡◌, ◌≤◌, ◌<◌, pos, nat_abs, drop};
 ghost use Rattle.offer_rules.specs.Numbers.{eq_z, word};
 ghost use Rattle.offer_rules.specs.Offer.{proportion, ramp_up, ramp_down, pairs, sum_of};
 ghost use Rattle.book_rules.specs.Words.{cell_stamp};
@@ -16,19 +16,13 @@ pub(crate) fn pairs_of(offer: &[i32; offer::WORDS]) -> &[i32; offer::PAIR_WORDS]
     offer.last_chunk::<{ offer::PAIR_WORDS }>().unwrap()
 }
 
-// Whether each word is the same, asked of all without a branch.
-fn fold_same(held: &[i32], offer: &[i32]) -> bool
-    ensures { result ≡ fold (λ same p. same && eq_z p.0 p.1) true (zip held.now offer.now) }
+// Whether each word is the same, asked of all without a branch or a call.
+fn are_same(held: &[i32; offer::PAIR_WORDS], offer: &[i32; offer::PAIR_WORDS]) -> bool
+    ensures { result ≡ equal_words held.now offer.now }
 {
     held.iter()
         .zip(offer)
         .fold(true, |same, (x, y)| same & (*x == *y))
-}
-
-fn are_same(held: &[i32; offer::PAIR_WORDS], offer: &[i32; offer::PAIR_WORDS]) -> bool
-    ensures { result ≡ equal_words held.now offer.now }
-{
-    fold_same(held, offer)
 }
 
 // A cell's words, where they stand in the book.
