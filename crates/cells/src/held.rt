@@ -7,14 +7,7 @@ ghost use Rattle.book_rules.specs.Refusals.{equal_words};
 ghost use Rattle.cells.specs.Meaning.{held_by};
 
 use layout::{cell, offer};
-use offers::sum_of;
-
-// The words of an offer's pairs; a cell's below. Both are last_chunk, which is generic already.
-pub(crate) fn pairs_of(offer: &[i32; offer::WORDS]) -> &[i32; offer::PAIR_WORDS]
-    ensures { result.now ≡ drop 3 offer.now }
-{
-    offer.last_chunk::<{ offer::PAIR_WORDS }>().unwrap()
-}
+use offers::{sum_of, words_of_pairs};
 
 // Whether each word is the same, asked of all without a branch or a call.
 fn are_same(held: &[i32; offer::PAIR_WORDS], offer: &[i32; offer::PAIR_WORDS]) -> bool
@@ -89,7 +82,7 @@ impl<'a> Cell<'a> {
         let proportion = terms.proportion == offer[offer::PROPORTION];
         let up = terms.up == offer[offer::RAMP_UP];
         let down = terms.down == offer[offer::RAMP_DOWN];
-        let pairs = are_same(self.pairs(), pairs_of(offer));
+        let pairs = are_same(self.pairs(), words_of_pairs(offer));
         proportion & (up & (down & pairs))
     }
 }
