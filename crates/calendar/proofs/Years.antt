@@ -1,10 +1,10 @@
 -- Years by fours, of 1,461 days, the first of four being a leap year. That 2024 to 2099 go so is a test that the check computes.
 use mathlib.Core.Path.{◌≡◌, refl, sym}
-use mathlib.Core.Bool.{Bool, true, false, false≢true}
-use Rattle.std.specs.Prelude.{IsTrue, ◌↔◌}
+use mathlib.Core.Bool.{Bool, true, false}
 use Prim.Native.Nat.{ℕ, suc, ◌+◌, ◌*◌, ◌/◌, ◌%◌, ◌<◌, ◌≤◌}
 use native.Mathlib.Omega.{arith}
 use lib.Dec.{eqb}
+use borrow.Author.Tests.{eqb-true, eqb-false}
 use Rattle.calendar_rules.specs.Calendar.{first_year, is_leap, year_days, days_of_years, years_before, into_year}
 use Rattle.calendar_rules.proofs.Everywhere.{passes_below, agree}
 use Rattle.calendar_rules.proofs.Begun.{none_other}
@@ -12,9 +12,12 @@ use Rattle.calendar_rules.proofs.Lengths.{year_more, years_rise}
 use Rattle.calendar_rules.proofs.Claimed.{gregorian}
 
 -- No year of 2024 to 2099 is a multiple of 100.
-pub leap_by_fours : (n : ℕ) (t : Bool) → n ≤ 75 → (IsTrue t ↔ (n % 4 ≡ 0)) → t ≡ is_leap (first_year + n)
-leap_by_fours n true h e = let f = e.0 refl in sym (gregorian.by_4 (first_year + n) (omega arith) (λ z. omega arith))
-leap_by_fours n false h e = sym (gregorian.by_none (first_year + n) (λ z. false≢true (e.1 (omega arith))))
+pub leap_by_fours : (n : ℕ) → n ≤ 75 → is_leap (first_year + n) ≡ eqb (n % 4) 0
+leap_by_fours n h = by (eqb (n % 4) 0) refl
+  where
+    by : (t : Bool) → eqb (n % 4) 0 ≡ t → is_leap (first_year + n) ≡ t
+    by true e = gregorian.by_4 (first_year + n) (omega (arith, eqb-true (n % 4) 0 e)) (λ z. omega arith)
+    by false e = gregorian.by_none (first_year + n) (λ z. eqb-false (n % 4) 0 e (omega arith))
 
 abbrev by_fours : ℕ → ℕ
 by_fours n = (1461 * n + 3) / 4

@@ -1,4 +1,5 @@
 // Dates and periods, for C: year, month, day and period to P, and P to these. No loop, no table and no book.
+// Narrowing stays `as`, proved to lose nothing: a `try_from` would be tested as it runs.
 #![tactic(auto)]
 
 ghost use Rattle.std.specs.Prelude.{◌≡◌, ◌+◌, ◌-◌, ◌≤◌, ◌<◌};
@@ -15,7 +16,7 @@ use units::{is_beyond, nat};
 // ---- years and months in days
 
 // A year of "2024 to 2099", as the count of these before it.
-#[derive(Clone, Copy)]
+#[derive(Clone, Copy, Debug, PartialEq, Eq)]
 struct Year {
     before: u64,
     ghost to_2099: { before ≤ 75 },
@@ -23,6 +24,7 @@ struct Year {
 
 impl Year {
     // Each fourth of 2024 to 2099 is a leap year, the first too: no multiple of 100 is among them.
+    #[tactic(auto, using(crate::proofs::Years::leap_by_fours))]
     fn is_leap(self) -> bool
         ensures { result ≡ is_leap (first_year + self.before) }
     {
@@ -47,7 +49,7 @@ fn evenly(month: u64) -> u64
 }
 
 // A month, January as 1, of a year that is a leap year or not.
-#[derive(Clone, Copy)]
+#[derive(Clone, Copy, Debug, PartialEq, Eq)]
 struct Month {
     leap: bool,
     number: u64,
@@ -56,7 +58,7 @@ struct Month {
 
 impl Month {
     // But for February, months of 31 and 30 days in turn, and again from August on.
-    #[tactic(auto, using(crate::proofs::Months::days_in_turns), unfolding(calendar_rules::specs::Calendar::month_days))]
+    #[tactic(auto, using(crate::proofs::Months::days_in_turns))]
     fn days(self) -> u64
         ensures { (result ≡ month_days self.leap self.number) × (result ≤ 31) }
     {
@@ -67,7 +69,7 @@ impl Month {
     }
 
     // After February it is two days less than evenly, in a leap year one.
-    #[tactic(auto, using(crate::proofs::Months::before_early, crate::proofs::Months::before_later, crate::proofs::Months::before_at_most))]
+    #[tactic(auto, using(crate::proofs::Months::days_before_it, crate::proofs::Months::before_at_most))]
     fn days_before(self) -> u64
         ensures { (result ≡ days_before self.leap self.number) × (result ≤ 366) }
     {
@@ -80,7 +82,7 @@ impl Month {
 }
 
 // A day by its number: "Day 0 is 1 January 2024", and the last is 31 December 2099.
-#[derive(Clone, Copy)]
+#[derive(Clone, Copy, Debug, PartialEq, Eq)]
 struct Day {
     number: u64,
     ghost to_last: { number ≤ last_day },
@@ -97,12 +99,12 @@ impl Day {
 
 // ---- a date and period to P
 
-// A word from lo to hi, as a count.
-fn counted(lo: i32, hi: i32, word: i32) -> Result<u64, Refusal>
-    requires { 1 ≤ to_nat lo }
-    ensures { OrDate (between (to_nat lo) (to_nat hi) (to_nat word)) (λ n. (n ≡ to_nat word) × (to_nat lo ≤ n) × (n ≤ to_nat hi)) result }
+// A word from lo to hi, as a count. It is held against words: held against counts, it made a date a thirtieth slower.
+fn counted(lo: u64, hi: u64, word: i32) -> Result<u64, Refusal>
+    requires { (1 ≤ lo) × (lo ≤ hi) × (hi < 2147483648) }
+    ensures { OrDate (between lo hi (to_nat word)) (λ n. (n ≡ to_nat word) × (lo ≤ n) × (n ≤ hi)) result }
 {
-    if is_beyond(lo, hi, word) {
+    if is_beyond(lo as i32, hi as i32, word) {
         return Err(Refusal::Date);
     }
     Ok(nat(word))
@@ -114,7 +116,7 @@ impl TryFrom<i32> for Year {
     ghost try_from_gives = { λ year r. OrDate (between first_year last_year (to_nat year)) (λ y. first_year + y.before ≡ to_nat year) r };
 
     fn try_from(year: i32) -> Result<Year, Refusal> {
-        let year = counted(time::FIRST_YEAR as i32, time::LAST_YEAR as i32, year)?;
+        let year = counted(time::FIRST_YEAR, time::LAST_YEAR, year)?;
         Ok(Year {
             before: year - time::FIRST_YEAR,
         })
@@ -134,7 +136,7 @@ impl Year {
 }
 
 impl Month {
-    // No month has fewer than 28 days.
+    // No month has fewer than 28 days. Asked first: without it a date took a sixth longer or more.
     #[tactic(auto, using(calendar_rules::proofs::Lengths::at_least_28))]
     fn day(self, day: i32) -> Result<u64, Refusal>
         ensures { OrDate (between 1 (month_days self.leap self.number) (to_nat day)) (λ d. (d ≡ to_nat day) × (1 ≤ d)) result }
@@ -142,7 +144,7 @@ impl Month {
         if day <= 28 {
             return counted(1, 28, day);
         }
-        counted(1, self.days() as i32, day)
+        counted(1, self.days(), day)
     }
 }
 
@@ -169,19 +171,19 @@ impl Day {
     }
 }
 
-// P and its weekday. Where `as` narrows, here and below, nothing is lost; `try_from` would add a refusal that can't be.
-#[derive(Clone, Copy)]
-struct DatedPeriod {
-    period: i32,
-    weekday: i32,
+// P and its weekday.
+#[derive(Clone, Copy, Debug, PartialEq, Eq)]
+pub struct DatedPeriod {
+    pub period: i32,
+    pub weekday: i32,
 }
 
 #[tactic(auto, unfolding(calendar_rules::specs::Answers::period_answer, calendar_rules::specs::Answers::period_for, calendar_rules::specs::Answers::is_date_and_period, calendar_rules::specs::Answers::period_found, calendar_rules::specs::Calendar::period_of_date))]
-fn period_of(year: i32, month: i32, day: i32, period: i32) -> Result<DatedPeriod, Refusal>
+pub fn period_of(year: i32, month: i32, day: i32, period: i32) -> Result<DatedPeriod, Refusal>
     ensures { period_outcome result ≡ period_answer year month day period }
 {
     let day = Day::of(year, month, day)?;
-    let period = counted(1, time::DAY_PERIODS as i32, period)?;
+    let period = counted(1, time::DAY_PERIODS, period)?;
     Ok(DatedPeriod {
         period: day.period(period) as i32,
         weekday: day.weekday() as i32,
@@ -190,7 +192,7 @@ fn period_of(year: i32, month: i32, day: i32, period: i32) -> Result<DatedPeriod
 
 // As C gets it: 0 and what is found, or 21 and zeros.
 #[repr(C)]
-#[derive(Clone, Copy)]
+#[derive(Clone, Copy, Debug, PartialEq, Eq, Default)]
 pub struct Period {
     pub number: u32,
     pub period: i32,
@@ -208,24 +210,17 @@ impl From<Result<DatedPeriod, Refusal>> for Period {
                 weekday: found.weekday,
             },
             Err(refusal) => Period {
-                number: u32::from(refusal.number()),
-                period: 0,
-                weekday: 0,
+                number: refusal.number(),
+                ..Period::default()
             },
         }
     }
 }
 
-pub fn bilzhaan_period_of(year: i32, month: i32, day: i32, period: i32) -> Period
-    ensures { period_answer_of result ≡ period_answer year month day period }
-{
-    Period::from(period_of(year, month, day, period))
-}
-
 // ---- P to a date and period
 
 // A day as one of its year, by the days of the year before it.
-#[derive(Clone, Copy)]
+#[derive(Clone, Copy, Debug, PartialEq, Eq)]
 struct DayOfYear {
     leap: bool,
     before: u64,
@@ -267,6 +262,7 @@ impl DayOfYear {
     }
 
     // The month and the day of it: with a February of 30 days it falls among twelve months that share 367 days evenly.
+    #[tactic(auto, using(crate::proofs::Months::month_falls, crate::proofs::Months::day_falls, crate::proofs::Months::day_most))]
     fn month_and_day(self) -> (u64, u64)
         ensures month { (result.0 ≡ month_at self.leap self.before) × (result.0 ≤ 12) }
         ensures day { (result.1 ≡ self.before - days_before self.leap (month_at self.leap self.before) + 1) × (result.1 ≤ 31) }
@@ -278,17 +274,17 @@ impl DayOfYear {
 }
 
 // A date and period, and their weekday.
-#[derive(Clone, Copy)]
-struct DatedDay {
-    year: i32,
-    month: i32,
-    day: i32,
-    period: i32,
-    weekday: i32,
+#[derive(Clone, Copy, Debug, PartialEq, Eq)]
+pub struct DatedDay {
+    pub year: i32,
+    pub month: i32,
+    pub day: i32,
+    pub period: i32,
+    pub weekday: i32,
 }
 
 #[tactic(auto, unfolding(calendar_rules::specs::Answers::date_answer, calendar_rules::specs::Answers::date_found, calendar_rules::specs::Calendar::date_of_day))]
-fn date_of(period: i32) -> Result<DatedDay, Refusal>
+pub fn date_of(period: i32) -> Result<DatedDay, Refusal>
     ensures { date_outcome result ≡ date_answer period }
 {
     if is_beyond(0, time::LAST_DATED_PERIOD, period) {
@@ -310,7 +306,7 @@ fn date_of(period: i32) -> Result<DatedDay, Refusal>
 
 // As C gets it: 0 and what is found, or 21 and zeros.
 #[repr(C)]
-#[derive(Clone, Copy)]
+#[derive(Clone, Copy, Debug, PartialEq, Eq, Default)]
 pub struct Date {
     pub number: u32,
     pub year: i32,
@@ -334,19 +330,9 @@ impl From<Result<DatedDay, Refusal>> for Date {
                 weekday: found.weekday,
             },
             Err(refusal) => Date {
-                number: u32::from(refusal.number()),
-                year: 0,
-                month: 0,
-                day: 0,
-                period: 0,
-                weekday: 0,
+                number: refusal.number(),
+                ..Date::default()
             },
         }
     }
-}
-
-pub fn bilzhaan_date_of(period: i32) -> Date
-    ensures { date_answer_of result ≡ date_answer period }
-{
-    Date::from(date_of(period))
 }
