@@ -24,4 +24,4 @@ returns c =
     let allowed = range_of c.marks-allowed.result in
     let kind : FitsSigned w32 (word w 0) = search rules in
     fold_from_yields_List _ (one_more w allowed) false _ c.fold.ensures.ran (YieldsList-from_range 0 5 5 refl refl) (λ a x b q k. search rules)
-    ∙ by_row w allowed (c.marks-allowed.ensures ∙ ap (λ (z : ℤ). (kind_row z).marks) (handed_on kind refl))
+    ∙ by_row w allowed (c.marks-allowed.ensures ∙ ap (λ (z : ℤ). (kind_row z).marks) (handed_on kind.sfits refl))
