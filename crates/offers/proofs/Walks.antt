@@ -394,16 +394,19 @@ module _ (lowest highest : Price) where
       none_refused = refused_rest l ∙ empty_passes (from_blank l) rest_empty
 
       -- the promise
-      pub come_first : BlanksLast l
+      pub come_first : blank_before_filled l ≡ false
       unfolding blank_refused
-      come_first = none_before l (or_right (any_pair is_priced_blank l) (blank_before_filled l) none_refused)
+      come_first = or_right (any_pair is_priced_blank l) (blank_before_filled l) none_refused
+
+      last : BlanksLast l
+      last = none_before l come_first
 
       -- the price order and the total rest on it
       order_found : f.rises ≡ rises (non_blank_prices l)
-      order_found = ap (λ (g : Findings). g.rises) to_first_blank ∙ walked_rises none_yet l ∙ ap rises (sym (prices_of_first come_first))
+      order_found = ap (λ (g : Findings). g.rises) to_first_blank ∙ walked_rises none_yet l ∙ ap rises (sym (prices_of_first last))
 
       pub total_found : f.total.0 ≡ sum_of l
-      total_found = ap (λ (g : Findings). g.total.0) to_first_blank ∙ walked_total none_yet (filled_part l) ∙ +ℤ_idl (sum_of (filled_part l)) ∙ sym (sum_of_first come_first)
+      total_found = ap (λ (g : Findings). g.total.0) to_first_blank ∙ walked_total none_yet (filled_part l) ∙ +ℤ_idl (sum_of (filled_part l)) ∙ sym (sum_of_first last)
 
       order_draws : pairs_number lowest highest l ≡ draw (not f.rises) 13
       unfolding pairs_number draw ◌then◌

@@ -1,8 +1,8 @@
 // An offer against its facility's capability: refusals 14 to 16.
-ghost use Rattle.std.specs.Prelude.{◌≡◌, ◌||◌, ◌≤◌, pos};
+ghost use Rattle.std.specs.Prelude.{◌≡◌, ◌||◌, pos};
 ghost use Rattle.std.specs.Int.Signed.{lt_z};
 ghost use Rattle.offer_rules.specs.Numbers.{eq_z};
-ghost use Rattle.offer_rules.specs.Offer.{is_reserve, ramp_beyond, ramp_refused, proportion_refused, above_capacity};
+ghost use Rattle.offer_rules.specs.Offer.{ramp_beyond, ramp_refused, proportion_refused, above_capacity};
 
 use crate::filed::Filed;
 use crate::sum::Sum;
@@ -11,7 +11,7 @@ use layout::{facility, offer};
 use units::Quantity;
 
 // Tenths of a MW per minute.
-#[derive(Clone, Copy, PartialEq, Eq, PartialOrd, Ord)]
+#[derive(Clone, Copy, Debug, PartialEq, Eq, PartialOrd, Ord)]
 struct Ramp(i32);
 
 impl Ramp {
@@ -27,7 +27,7 @@ impl Ramp {
 }
 
 // Thousandths.
-#[derive(Clone, Copy, PartialEq, Eq, PartialOrd, Ord)]
+#[derive(Clone, Copy, Debug, PartialEq, Eq, PartialOrd, Ord)]
 struct Proportion(i32);
 
 impl Proportion {
@@ -41,10 +41,10 @@ impl Proportion {
 impl<'a> Filed<'a> {
     // 14 "energy ramp outside 0 to its maximum"; "also covers a ramp above 9,999"
     #[tactic(auto, unfolding(offer_rules::specs::Offer::ramp_refused))]
-    pub fn is_ramp_refused(&self, capability: &[i32; 17]) -> bool
-        ensures { result ≡ ramp_refused capability.now self.now.service self.now.offer.now }
+    pub fn is_ramp_refused(&self, capability: &[i32; facility::CAPABILITY]) -> bool
+        ensures { result ≡ ramp_refused capability.now self.now.service.number self.now.offer.now }
     {
-        if self.service != facility::ENERGY {
+        if !self.service.is_energy() {
             return false;
         }
         let up = Ramp(self.offer[offer::RAMP_UP]);
@@ -53,35 +53,29 @@ impl<'a> Filed<'a> {
             | down.is_beyond(Ramp(capability[facility::MAX_RAMP_DOWN]))
     }
 
-    fn is_reserve(&self) -> bool
-        ensures { result ≡ is_reserve self.now.service }
-    {
-        (facility::PRIMARY_RESERVE..=facility::CONTINGENCY_RESERVE).contains(&self.service)
-    }
-
     // 15 "generation reserve: proportion 0 or above its maximum; load isn't tested"
     #[tactic(auto, unfolding(offer_rules::specs::Offer::proportion_refused))]
-    pub fn is_proportion_refused(&self, capability: &[i32; 17]) -> bool
-        ensures { result ≡ proportion_refused capability.now self.now.service self.now.offer.now }
+    pub fn is_proportion_refused(&self, capability: &[i32; facility::CAPABILITY]) -> bool
+        ensures { result ≡ proportion_refused capability.now self.now.service.number self.now.offer.now }
     {
         let maximum = Proportion(
-            capability[facility::MAX_PROPORTION_OF_SERVICE + usize::from(self.service)],
+            capability[facility::MAX_PROPORTION_OF_SERVICE + self.service.place()],
         );
         let proportion = Proportion(self.offer[offer::PROPORTION]);
-        (is_proportion_tested(capability[facility::KIND]) & self.is_reserve())
+        (is_proportion_tested(capability[facility::KIND]) & self.service.is_reserve())
             & proportion.is_none_or_above(maximum)
     }
 
     // 16 "total above generation or combined maximum (energy), or above the service's own"
     #[tactic(auto, unfolding(offer_rules::specs::Offer::above_capacity))]
-    pub fn is_above_capacity(&self, capability: &[i32; 17], total: Sum) -> bool
-        ensures { result ≡ above_capacity capability.now self.now.service total.0 }
+    pub fn is_above_capacity(&self, capability: &[i32; facility::CAPABILITY], total: Sum) -> bool
+        ensures { result ≡ above_capacity capability.now self.now.service.number total.0 }
     {
         let is_above = |at: usize| Sum::from(Quantity(capability[at])) < total;
-        if self.service == facility::ENERGY {
+        if self.service.is_energy() {
             is_above(facility::MAX_GENERATION) | is_above(facility::MAX_COMBINED)
         } else {
-            is_above(facility::MAX_OF_SERVICE + usize::from(self.service))
+            is_above(facility::MAX_OF_SERVICE + self.service.place())
         }
     }
 }

@@ -1,7 +1,7 @@
 // An offer as it is filed for a service, under its price limits: of its pairs refusals 11 to 13, and their total.
-ghost use Rattle.std.specs.Prelude.{◌≡◌, true, cond, not, ◌&&◌, ◌≤◌, eqb, length, drop, IfOk};
+ghost use Rattle.std.specs.Prelude.{◌≡◌, true, false, cond, not, ◌&&◌, ◌≤◌, eqb, length, drop, IfOk};
 ghost use Rattle.layout.specs.Refusal.{number, drawn};
-ghost use Rattle.offer_rules.specs.Offer.{pairs, BlanksLast, sum_of, any_pair};
+ghost use Rattle.offer_rules.specs.Offer.{pairs, sum_of, any_pair, blank_before_filled};
 ghost use Rattle.offers.specs.PairTests.{no_pair, all_empty, pair_is_out, found_in, pairs_number, used_pairs, UsesFive};
 ghost use Rattle.units.specs.Typed.{pairs_of};
 
@@ -9,18 +9,20 @@ use crate::limits::PriceLimits;
 use crate::pairs::{is_empty, pairs};
 use crate::sum::Sum;
 use crate::walk::{Findings, walk};
-use layout::{Refusal, facility, offer};
+use layout::{Refusal, Service, offer};
 use units::Pair;
 
-#[derive(Clone, Copy)]
+// "for 1 to 3 the proportion and five pairs; for 4 five pairs"
+const FEWER_PAIRS: usize = 5;
+
+#[derive(Clone, Copy, Debug, PartialEq, Eq)]
 pub struct Filed<'a> {
-    pub service: u8,
+    pub service: Service,
     pub limits: PriceLimits,
-    pub offer: &'a [i32; 23],
-    ghost known: { service ≤ 4 },
+    pub offer: &'a [i32; offer::WORDS],
 
     // refusal 4 has left empty what the service doesn't use
-    ghost five_used: { UsesFive service offer.now },
+    ghost five_used: { UsesFive service.number offer.now },
 }
 
 impl<'a> Filed<'a> {
@@ -28,21 +30,21 @@ impl<'a> Filed<'a> {
 
     // Those that its service doesn't use are empty.
     #[tactic(auto, using(crate::proofs::Walks::unused_empty))]
-    fn pairs(&self) -> &'a [[i32; 2]; 10]
+    fn pairs(&self) -> &'a [[i32; 2]; offer::PAIR_COUNT]
         ensures each { (pairs_of result.now ≡ pairs self.now.offer.now) × (length result.now ≡ 10) }
-        ensures unused { all_empty (drop (used_pairs self.now.service) (pairs self.now.offer.now)) ≡ true }
+        ensures unused { all_empty (drop (used_pairs self.now.service.number) (pairs self.now.offer.now)) ≡ true }
     {
         pairs(self.offer)
     }
 
     // How many pairs its service uses.
     fn used_pairs(&self) -> usize
-        ensures { (result ≡ used_pairs self.now.service) × (result ≤ 10) }
+        ensures { (result ≡ used_pairs self.now.service.number) × (result ≤ 10) }
     {
-        if self.service == facility::ENERGY {
+        if self.service.is_energy() {
             offer::PAIR_COUNT
         } else {
-            offer::PAIR_COUNT / 2
+            FEWER_PAIRS
         }
     }
 
@@ -50,30 +52,30 @@ impl<'a> Filed<'a> {
 
     // Whether the walk may end after five pairs. Services 1 to 4 use no more, and the others are empty; they are tested where 11 would refuse an empty one.
     fn do_five_suffice(&self) -> bool
-        ensures { result ≡ (not (eqb self.now.service 0) && not (pair_is_out self.now.limits.lowest self.now.limits.highest no_pair)) }
+        ensures { result ≡ (not (eqb self.now.service.number 0) && not (pair_is_out self.now.limits.lowest self.now.limits.highest no_pair)) }
     {
-        self.service != facility::ENERGY && !self.limits.is_out_of_range(Pair::from([0, 0]))
+        !self.service.is_energy() && !self.limits.is_out_of_range(Pair::from([0, 0]))
     }
 
     // Five pairs, and the other five where the walk has not ended before them and they may change something; whether they may is asked after the first five, with nothing
     // more to keep on the way.
     fn findings(&self) -> Result<Findings, Refusal>
         ensures found { result ≡ found_in self.now.limits.lowest self.now.limits.highest (pairs self.now.offer.now) }
-        ensures within { IfOk result (λ f. f.filled ≤ used_pairs self.now.service) }
+        ensures within { IfOk result (λ f. f.filled ≤ used_pairs self.now.service.number) }
     {
         let pairs = self.pairs();
-        let five = walk(self.limits, Findings::NONE_YET, &pairs[..5])?;
-        if five.filled < 5 || self.do_five_suffice() {
+        let five = walk(self.limits, Findings::NONE_YET, &pairs[..FEWER_PAIRS])?;
+        if five.filled < FEWER_PAIRS || self.do_five_suffice() {
             return Ok(five);
         }
-        walk(self.limits, five, &pairs[5..])
+        walk(self.limits, five, &pairs[FEWER_PAIRS..])
     }
 
     // ---- 11 to 13: all pairs
 
     // Whether the pairs from one on are empty. Most offers fill all that their service uses: that none is left is asked first.
     fn are_empty_from(&self, from: usize) -> bool
-        requires { from ≤ used_pairs self.now.service }
+        requires { from ≤ used_pairs self.now.service.number }
         ensures { result ≡ all_empty (drop from (pairs self.now.offer.now)) }
     {
         let pairs = self.pairs();
@@ -111,7 +113,7 @@ impl<'a> Filed<'a> {
     #[tactic(auto, using(crate::proofs::Walks::draws_11, crate::proofs::Walks::draws_11_or_12, crate::proofs::Walks::draws_13, crate::proofs::Walks::draws_none, crate::proofs::Walks::come_first, crate::proofs::Walks::total_found))]
     pub fn judge_pairs(&self) -> Result<Sum, Refusal>
         ensures number { drawn result ≡ pairs_number self.now.limits.lowest self.now.limits.highest (pairs self.now.offer.now) }
-        ensures passed { IfOk result (λ total. (total.0 ≡ sum_of (pairs self.now.offer.now)) × BlanksLast (pairs self.now.offer.now)) }
+        ensures passed { IfOk result (λ total. (total.0 ≡ sum_of (pairs self.now.offer.now)) × (blank_before_filled (pairs self.now.offer.now) ≡ false)) }
     {
         let f = self.findings()?;
         if !self.are_empty_from(f.filled) {

@@ -1,10 +1,11 @@
 // The offer rules, refusals 10 to 16 (document 01, "Who draws which number"), below the book.
 // An offer is 23 words (proportion, ramps, ten pairs), a facility's capability 17 words W0 to W16, the price limits 6 words.
+// A bound stands beside a number's equation for callers that don't unfold the rule.
 #![tactic(auto)]
 
-ghost use Rattle.std.specs.Prelude.{◌≡◌, ◌≤◌};
+ghost use Rattle.std.specs.Prelude.{◌≡◌, ◌≤◌, IfOk};
 ghost use Rattle.offer_rules.specs.Time.{slot_refused, period_refused};
-ghost use Rattle.offer_rules.specs.Offer.{pairs, BlanksLast, offer_number};
+ghost use Rattle.offer_rules.specs.Offer.{offer_number};
 ghost use Rattle.layout.specs.Refusal.{drawn};
 ghost use Rattle.offers.specs.PairTests.{UsesFive};
 
@@ -12,13 +13,15 @@ mod capability;
 mod filed;
 mod limits;
 mod pairs;
+mod passed;
 mod sum;
 mod walk;
 
 use filed::Filed;
-use layout::{Refusal, fields, refuse_if, time};
+use layout::{Refusal, Service, facility, fields, head, offer, refuse_if, time};
 use limits::PriceLimits;
-pub use pairs::{is_all_blank, sum_of};
+pub use pairs::{sum_of, words_of_pairs};
+pub use passed::Passed;
 use units::{is_beyond, nat};
 
 // ---- 10: slots and periods
@@ -42,19 +45,19 @@ pub fn is_period_refused(clock: u64, period: i32) -> bool
 
 // ---- 11 to 16
 
-// The first that applies. Where none does, "all non-blank pairs come first".
-#[tactic(auto, using(layout::proofs::Chains::passed_first, layout::proofs::Chains::refused_first, layout::proofs::Chains::draw_most, layout::proofs::Chains::is_drawn, crate::proofs::InOrder::in_order, crate::proofs::InOrder::pairs_most))]
-pub fn check_offer(
-    limits: &[i32; 6],
-    capability: &[i32; 17],
-    service: u8,
+// The first that applies; else the offer, of which "all non-blank pairs come first".
+#[tactic(auto, using(layout::proofs::Chains::passed_first, layout::proofs::Chains::refused_first, layout::proofs::Chains::is_drawn, crate::proofs::InOrder::in_order, crate::proofs::InOrder::pairs_most))]
+pub fn check_offer<'a>(
+    limits: &[i32; head::LIMIT_COUNT],
+    capability: &[i32; facility::CAPABILITY],
+    service: Service,
     reason: u8,
-    offer: &[i32; 23],
-) -> Result<(), Refusal>
-    requires { (service ≤ 4) × UsesFive service offer.now }
-    ensures number { drawn result ≡ offer_number limits.now capability.now service reason offer.now }
+    offer: &'a [i32; offer::WORDS],
+) -> Result<Passed<'a>, Refusal>
+    requires { UsesFive service.number offer.now }
+    ensures number { drawn result ≡ offer_number limits.now capability.now service.number reason offer.now }
     ensures bound { drawn result ≤ 16 }
-    ensures passed { drawn result ≡ 0 → BlanksLast (pairs offer.now) }
+    ensures passed { IfOk result (λ p. (p.reason ≡ reason) × (p.offer.now ≡ offer.now)) }
 {
     refuse_if(fields::LOAD_OUTAGE < reason, Refusal::OutOfRange)?;
     let filed = Filed {
@@ -68,5 +71,6 @@ pub fn check_offer(
     refuse_if(
         filed.is_above_capacity(capability, total),
         Refusal::AboveCapacity,
-    )
+    )?;
+    Ok(Passed { reason, offer })
 }

@@ -1,15 +1,13 @@
 // The prices and quantities that a service's pairs may have.
-ghost use Rattle.std.specs.Prelude.{◌≡◌, ◌≤◌};
+ghost use Rattle.std.specs.Prelude.{◌≡◌};
 ghost use Rattle.units.specs.Typed.{pair_of};
 ghost use Rattle.offers.specs.PairTests.{pair_is_out};
 ghost use Rattle.offers.specs.Typed.{limits_of};
 
-use layout::facility;
+use layout::{Service, head, offer};
 use units::{Pair, Price, Quantity};
 
-const MOST_QUANTITY: Quantity = Quantity(99999);
-
-#[derive(Clone, Copy)]
+#[derive(Clone, Copy, Debug, PartialEq, Eq)]
 pub struct PriceLimits {
     pub lowest: Price,
     pub highest: Price,
@@ -17,18 +15,17 @@ pub struct PriceLimits {
 
 impl PriceLimits {
     // "services 1–4 from 0"
-    pub fn of_service(limits: &[i32; 6], service: u8) -> PriceLimits
-        requires { service ≤ 4 }
-        ensures { result ≡ limits_of limits.now service }
+    pub fn of_service(limits: &[i32; head::LIMIT_COUNT], service: Service) -> PriceLimits
+        ensures { result ≡ limits_of limits.now service.number }
     {
-        let lowest = if service == facility::ENERGY {
+        let lowest = if service.is_energy() {
             Price(limits[0])
         } else {
             Price(0)
         };
         PriceLimits {
             lowest,
-            highest: Price(limits[1 + usize::from(service)]),
+            highest: Price(limits[1 + service.place()]),
         }
     }
 
@@ -36,7 +33,7 @@ impl PriceLimits {
     pub fn is_out_of_range(self, pair: Pair) -> bool
         ensures { result ≡ pair_is_out self.lowest self.highest (pair_of pair) }
     {
-        !(Quantity(0)..=MOST_QUANTITY).contains(&pair.quantity)
+        !(Quantity(0)..=Quantity(offer::MOST_QUANTITY)).contains(&pair.quantity)
             | !(self.lowest..=self.highest).contains(&pair.price)
     }
 }

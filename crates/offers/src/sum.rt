@@ -5,7 +5,7 @@ use std::ops::Add;
 use units::Quantity;
 
 // Tenths of a MW, added.
-#[derive(Clone, Copy, PartialEq, Eq, PartialOrd, Ord)]
+#[derive(Clone, Copy, Debug, Default, PartialEq, Eq, PartialOrd, Ord)]
 pub struct Sum(pub i64);
 
 impl From<Quantity> for Sum {

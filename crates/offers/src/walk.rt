@@ -8,16 +8,9 @@ use crate::sum::Sum;
 use layout::Refusal;
 use units::{Pair, Price};
 
-// 13 "prices of non-blank pairs not strictly rising": `last` is the price before, if there is one.
-#[tactic(auto, unfolding(crate::specs::PairTests::still_rises))]
-fn still_rises(rises: bool, last: Option<Price>, price: Price) -> bool
-    ensures { result ≡ still_rises rises last price }
-{
-    rises & last.is_none_or(|last| last < price)
-}
-
 // What the pairs before the first blank, or up to some place, have shown: `filled` counts them, and `last` is the price of the last.
-#[derive(Clone, Copy)]
+// A flag beside `last`: after a fall the walk goes on, as 11 and 12 come before 13, and holds each price against the last all the same.
+#[derive(Clone, Copy, Debug, PartialEq, Eq)]
 pub struct Findings {
     pub rises: bool,
     pub last: Option<Price>,
@@ -33,6 +26,14 @@ impl Findings {
         filled: 0,
     };
 
+    // 13 "prices of non-blank pairs not strictly rising"
+    #[tactic(auto, unfolding(crate::specs::PairTests::still_rises))]
+    fn still_rises(self, price: Price) -> bool
+        ensures { result ≡ still_rises self.rises self.last price }
+    {
+        self.rises & self.last.is_none_or(|last| last < price)
+    }
+
     // One pair more.
     #[tactic(auto, unfolding(crate::specs::PairTests::with_filled))]
     fn with_filled(self, pair: Pair) -> Findings
@@ -40,7 +41,7 @@ impl Findings {
         ensures { result ≡ with_filled self pair.price pair.quantity }
     {
         Findings {
-            rises: still_rises(self.rises, self.last, pair.price),
+            rises: self.still_rises(pair.price),
             last: Some(pair.price),
             total: self.total + pair.quantity,
             filled: self.filled + 1,
