@@ -1,11 +1,13 @@
 -- What the code's enums and structs mean in document 01's rules: what a cell holds, the offer in force, an answer's three fields,
 -- and the sizes that the book's words show.
-use Rattle.std.specs.Prelude.{◌≡◌, List, ℕ, ◌≤◌, ℤ, length, Option, None, Some}
+use Rattle.std.specs.Prelude.{◌≡◌, List, ℕ, ◌≤◌, ℤ, length, Option, None, Some, Result, Ok, Err}
 use Rattle.std.proofs.Math.Option as math
 use Rattle.offer_rules.specs.Offer.{Held}
 use Rattle.book_rules.specs.Words.{book_size, cell_held, standing_half, variation_half}
 use Rattle.book_rules.specs.Force as force
 use Rattle.book_rules.specs.Book.{facilities_in, services_in}
+use Rattle.layout.specs.Refusal.{number}
+use Rattle.layout.specs.declared.refusal.Refusal.{Refusal}
 use Rattle.cells.specs.declared.places.Half.{Half}
 use Rattle.cells.specs.declared.places.Half.TheVariants as half
 use Rattle.cells.specs.declared.held.Cell.{Cell}
@@ -48,3 +50,8 @@ pub record Sized (w : List ℤ) (facilities services : ℕ) : Type 0 where
 -- The code's answer as the rule's: number, 24 words, sum.
 abbrev pub answer_of : Answer → force.Answer
 answer_of r = record { number = r.number; words = r.words; sum = r.sum }
+
+-- An answer, or a refusal's number alone.
+abbrev pub answered : Result Answer Refusal → force.Answer
+answered (Ok answer) = answer_of answer
+answered (Err refusal) = force.plain (number refusal)

@@ -5,7 +5,7 @@ ghost use Rattle.book_rules.specs.Words.{ramps_fit};
 use layout::{Minute, offer};
 
 // An accepted offer, the minute of its acceptance, and the stamp that its cell gets.
-#[derive(Clone, Copy)]
+#[derive(Clone, Copy, Debug, PartialEq, Eq)]
 pub struct Filing<'a> {
     pub stamp: u32,
     pub minute: Minute,

@@ -10,10 +10,10 @@ use layout::{cell, offer};
 use offers::sum_of;
 
 // The words of an offer's pairs; a cell's below. Both are last_chunk, which is generic already.
-pub(crate) fn pairs_of(offer: &[i32; offer::WORDS]) -> &[i32; 20]
+pub(crate) fn pairs_of(offer: &[i32; offer::WORDS]) -> &[i32; offer::PAIR_WORDS]
     ensures { result.now ≡ drop 3 offer.now }
 {
-    offer.last_chunk::<20>().unwrap()
+    offer.last_chunk::<{ offer::PAIR_WORDS }>().unwrap()
 }
 
 // Whether each word is the same, asked of all without a branch.
@@ -25,20 +25,20 @@ fn fold_same(held: &[i32], offer: &[i32]) -> bool
         .fold(true, |same, (x, y)| same & (*x == *y))
 }
 
-fn are_same(held: &[i32; 20], offer: &[i32; 20]) -> bool
+fn are_same(held: &[i32; offer::PAIR_WORDS], offer: &[i32; offer::PAIR_WORDS]) -> bool
     ensures { result ≡ equal_words held.now offer.now }
 {
     fold_same(held, offer)
 }
 
 // A cell's words, where they stand in the book.
-#[derive(Clone, Copy)]
+#[derive(Clone, Copy, Debug, PartialEq, Eq)]
 pub struct Cell<'a> {
     pub words: &'a [i32; cell::WORDS],
 }
 
 // What a held offer has before its pairs, and the minute of its acceptance.
-#[derive(Clone, Copy)]
+#[derive(Clone, Copy, Debug, PartialEq, Eq)]
 pub(crate) struct Terms {
     pub proportion: i32,
     pub up: i32,
@@ -71,11 +71,11 @@ impl<'a> Cell<'a> {
 
     // The words of its pairs.
     #[tactic(auto, unfolding(book_rules::specs::Words::cell_held))]
-    pub fn pairs(&self) -> &'a [i32; 20]
+    pub fn pairs(&self) -> &'a [i32; offer::PAIR_WORDS]
         ensures { result.now ≡ drop 3 (held_by self.now).offer }
     {
         let words = self.words;
-        words.last_chunk::<20>().unwrap()
+        words.last_chunk::<{ offer::PAIR_WORDS }>().unwrap()
     }
 
     // "its ten quantities added"

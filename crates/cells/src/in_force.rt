@@ -8,11 +8,11 @@ ghost use Rattle.cells.specs.Meaning.{cell_of, meaning, answer_of};
 
 use crate::answers::Answer;
 use crate::held::Cell;
-use layout::{Minute, answer, time};
+use layout::{Minute, answer, offer, time};
 use units::copy_words;
 
 // By its cell; specs/Meaning says what each case means.
-#[derive(Clone, Copy)]
+#[derive(Clone, Copy, Debug, PartialEq, Eq)]
 pub enum InForce<'a> {
     Standing(Cell<'a>),
     Variation(Cell<'a>),
@@ -37,7 +37,7 @@ impl<'a> InForce<'a> {
 
     // The words of its pairs.
     #[tactic(auto, unfolding(offer_rules::specs::Offer::pairs, book_rules::specs::Force::pairs_of))]
-    pub fn pairs(&self) -> &'a [i32; 20]
+    pub fn pairs(&self) -> &'a [i32; offer::PAIR_WORDS]
         ensures { pairs_in result.now ≡ pairs_of (meaning (Some self.now)) }
     {
         self.cell().pairs()
@@ -64,7 +64,7 @@ impl<'a> InForce<'a> {
     {
         let cell = self.cell();
         let terms = cell.terms();
-        let mut words = [0; 24];
+        let mut words = [0; answer::WORDS];
         words[0] = self.first_word(clock);
         words[answer::PROPORTION] = terms.proportion;
         words[answer::RAMP_UP] = terms.up;
@@ -79,7 +79,7 @@ impl<'a> InForce<'a> {
 }
 
 // Offers in force: how many, and their quantities added.
-#[derive(Clone, Copy, Default)]
+#[derive(Clone, Copy, Debug, Default, PartialEq, Eq)]
 pub(crate) struct Tally {
     pub count: u32,
     pub sum: i64,

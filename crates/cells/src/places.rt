@@ -3,7 +3,7 @@ ghost use Rattle.std.specs.Prelude.{◌≡◌, ◌+◌, ◌≤◌, ◌<◌};
 ghost use Rattle.book_rules.specs.Words.{book_size, cell_place};
 ghost use Rattle.cells.specs.Meaning.{half_number};
 
-use layout::{Slot, cell, facility, head};
+use layout::{Sizes, Slot, cell};
 
 // "h 0 standing, 1 variation"
 #[derive(Clone, Copy, Debug, PartialEq, Eq)]
@@ -31,14 +31,13 @@ pub struct CellPlace {
 impl CellPlace {
     // "numbered ((f·S + s)·2 + h)·336 + slot": added up by services, so that the two cells of a slot lie a constant apart in a total's loop.
     #[tactic(auto, unfolding(book_rules::specs::Words::cell_place))]
-    pub(crate) fn start(self, facilities: usize, services: usize) -> usize
-        requires { (facilities ≤ 64) × (services ≤ 5) × (self.f < facilities) × (self.s < services) }
-        ensures place { result ≡ cell_place facilities services self.f self.s (half_number self.half) self.slot.number }
-        ensures room { result + 24 ≤ book_size facilities services }
+    pub(crate) fn start(self, sizes: Sizes) -> usize
+        requires { (self.f < sizes.facilities) × (self.s < sizes.services) }
+        ensures place { result ≡ cell_place sizes.facilities sizes.services self.f self.s (half_number self.half) self.slot.number }
+        ensures room { result + 24 ≤ book_size sizes.facilities sizes.services }
     {
-        head::WORDS
-            + facility::WORDS * facilities
-            + cell::SERVICE_WORDS * (self.f * services + self.s)
+        sizes.first_cell()
+            + cell::SERVICE_WORDS * (self.f * sizes.services + self.s)
             + cell::WORDS * (self.half.number() * cell::SLOTS + self.slot.number)
     }
 }

@@ -8,7 +8,7 @@ ghost use Rattle.cells.specs.Meaning.{Sized, half_number};
 use crate::filing::Filing;
 use crate::held::pairs_of;
 use crate::places::CellPlace;
-use layout::{cell, offer};
+use layout::{Sizes, cell, offer};
 use units::copy_words;
 
 // "ramp up times 10,000 plus ramp down"
@@ -36,17 +36,11 @@ fn write_cell(words: &mut [i32], filing: Filing<'_>)
 
 // "An accepted offer writes one cell's 24 words and no other word."
 #[tactic(auto, unfolding(book_rules::specs::Words::put))]
-pub fn store_offer(
-    book: &mut [i32],
-    facilities: usize,
-    services: usize,
-    place: CellPlace,
-    filing: Filing<'_>,
-)
-    requires { Sized book.old facilities services × (place.f < facilities) × (place.s < services) }
-    ensures { book.new ≡ put book.old (cell_place facilities services place.f place.s (half_number place.half) place.slot.number) (cell filing.entry.stamp (accepted_at filing.entry.minute.number filing.entry.offer.now)) }
+pub fn store_offer(book: &mut [i32], sizes: Sizes, place: CellPlace, filing: Filing<'_>)
+    requires { Sized book.old sizes.facilities sizes.services × (place.f < sizes.facilities) × (place.s < sizes.services) }
+    ensures { book.new ≡ put book.old (cell_place sizes.facilities sizes.services place.f place.s (half_number place.half) place.slot.number) (cell filing.entry.stamp (accepted_at filing.entry.minute.number filing.entry.offer.now)) }
 {
-    let at = place.start(facilities, services);
+    let at = place.start(sizes);
     let end = at + cell::WORDS;
     write_cell(&mut book[at..end], filing);
 }

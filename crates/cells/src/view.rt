@@ -9,16 +9,15 @@ use crate::answers::Answer;
 use crate::held::Cell;
 use crate::in_force::{InForce, Tally};
 use crate::places::{CellPlace, Half};
-use layout::{Slot, cell};
+use layout::{Period, Sizes, Slot, answer, cell};
 
 // A book's words, and F and S as they hold them.
 // f and s are no fields: a total goes through every f, so each method takes those it is of.
-#[derive(Clone, Copy)]
+#[derive(Clone, Copy, Debug, PartialEq, Eq)]
 pub struct Cells<'a> {
     pub words: &'a [i32],
-    pub facilities: usize,
-    pub services: usize,
-    pub ghost sized: { Sized words.now facilities services },
+    pub sizes: Sizes,
+    pub ghost sized: { Sized words.now sizes.facilities sizes.services },
 }
 
 impl<'a> Cells<'a> {
@@ -26,10 +25,10 @@ impl<'a> Cells<'a> {
 
     #[tactic(auto, using(std::proofs::lemmas::List::take_rest), unfolding(book_rules::specs::Words::part))]
     fn cell(&self, place: CellPlace) -> Cell<'a>
-        requires { (place.f < self.now.facilities) × (place.s < self.now.services) }
+        requires { (place.f < self.now.sizes.facilities) × (place.s < self.now.sizes.services) }
         ensures { result.words.now ≡ cell_in self.now.words.now place.f place.s (half_number place.half) place.slot.number }
     {
-        let at = place.start(self.facilities, self.services);
+        let at = place.start(self.sizes);
         Cell {
             words: self.words[at..at + cell::WORDS].as_array().unwrap(),
         }
@@ -38,7 +37,7 @@ impl<'a> Cells<'a> {
     // The cell, where it has this stamp.
     #[tactic(auto, unfolding(book_rules::specs::Book::held))]
     fn held(&self, place: CellPlace, stamp: u32) -> Option<Cell<'a>>
-        requires { (place.f < self.now.facilities) × (place.s < self.now.services) × (stamp < 2147483648) }
+        requires { (place.f < self.now.sizes.facilities) × (place.s < self.now.sizes.services) × (stamp < 2147483648) }
         ensures { held_in result ≡ held stamp (cell_in self.now.words.now place.f place.s (half_number place.half) place.slot.number) }
     {
         let cell = self.cell(place);
@@ -48,7 +47,7 @@ impl<'a> Cells<'a> {
     // "else the standing cell if its stamp is 1, else none"
     #[tactic(auto, unfolding(book_rules::specs::Book::book_view))]
     pub fn held_standing(&self, f: usize, s: usize, slot: Slot) -> Option<Cell<'a>>
-        requires { (f < self.now.facilities) × (s < self.now.services) }
+        requires { (f < self.now.sizes.facilities) × (s < self.now.sizes.services) }
         ensures { held_in result ≡ (book_view self.now.words.now).standing f s slot.number }
     {
         let half = Half::Standing;
@@ -57,13 +56,13 @@ impl<'a> Cells<'a> {
 
     // "the variation cell if its stamp is P + 1", else the standing one
     #[tactic(auto, unfolding(book_rules::specs::Book::book_view, book_rules::specs::Force::first_of, book_rules::specs::Force::in_force))]
-    pub fn in_force(&self, f: usize, s: usize, period: usize) -> Option<InForce<'a>>
-        requires { (f < self.now.facilities) × (s < self.now.services) × (period < 2147483647) }
-        ensures { meaning result ≡ in_force (book_view self.now.words.now) f s period }
+    pub fn in_force(&self, f: usize, s: usize, period: Period) -> Option<InForce<'a>>
+        requires { (f < self.now.sizes.facilities) × (s < self.now.sizes.services) }
+        ensures { meaning result ≡ in_force (book_view self.now.words.now) f s period.number }
     {
         let half = Half::Variation;
-        let slot = Slot::of(period);
-        let stamp = (period + 1) as u32;
+        let slot = period.slot();
+        let stamp = period.stamp();
         match self.held(CellPlace { f, s, half, slot }, stamp) {
             Some(cell) => Some(InForce::Variation(cell)),
             None => self.held_standing(f, s, slot).map(InForce::Standing),
@@ -72,16 +71,16 @@ impl<'a> Cells<'a> {
 
     // "word 0 counts facilities with an offer in force, other words zero; sum over them"
     #[tactic(auto, unfolding(book_rules::specs::Force::count_in_force, book_rules::specs::Force::sum_in_force, book_rules::specs::Force::totalled, book_rules::specs::Refusals::total_reply, book_rules::specs::Book::book_view))]
-    pub fn total(&self, s: usize, period: usize) -> Answer
-        requires { (s < self.now.services) × (period < 2147483647) }
-        ensures { answer_of result ≡ total_reply (book_view self.now.words.now) s period }
+    pub fn total(&self, s: usize, period: Period) -> Answer
+        requires { (s < self.now.sizes.services) }
+        ensures { answer_of result ≡ total_reply (book_view self.now.words.now) s period.number }
     {
         let mut t = Tally::default();
         // Facility numbers are values here: no slice is indexed by them.
-        for f in 0..self.facilities {
+        for f in 0..self.sizes.facilities {
             t = t.with(self.in_force(f, s, period));
         }
-        let mut words = [0; 24];
+        let mut words = [0; answer::WORDS];
         words[0] = t.count as i32;
         Answer {
             number: 0,

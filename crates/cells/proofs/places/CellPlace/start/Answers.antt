@@ -7,5 +7,5 @@ pub returns-clause-room : goal.returns-clause-room
 unfolding cell_place
 returns-clause-room c =
     let a = c.args in
-    let inside = cell_inside a.facilities a.services a.self.f a.self.s c.number.result a.self.slot.number c.requires.2 c.requires.3 c.number.ensures.1 a.self.slot.in_week in
+    let inside = cell_inside a.sizes.facilities a.sizes.services a.self.f a.self.s c.number.result a.self.slot.number c.requires.0 c.requires.1 c.number.ensures.1 a.self.slot.in_week in
     omega arith

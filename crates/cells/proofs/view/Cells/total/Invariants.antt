@@ -7,5 +7,5 @@ use Rattle.cells.proofs.view.Cells.total.Given as goal
 abbrev pub invariant-loop-f : goal.invariant-loop-f
 invariant-loop-f l =
     let w = l.self.words.now in
-    (l.t.count ≡ count_in_force (book_view w) l.s l.period l.f) × (l.t.sum ≡ sum_in_force (book_view w) l.s l.period l.f) × (l.f ≤ l.self.facilities)
+    (l.t.count ≡ count_in_force (book_view w) l.s l.period.number l.f) × (l.t.sum ≡ sum_in_force (book_view w) l.s l.period.number l.f) × (l.f ≤ l.self.sizes.facilities)
     × (l.t.count ≤ l.f) × (nat_abs l.t.sum ≤ l.f * 21474836480)
