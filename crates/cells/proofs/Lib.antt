@@ -1,4 +1,3 @@
 -- Laws that the proofs of the code share.
-pub mod Putting
 pub mod WordByWord
 pub mod Showing

@@ -1,5 +1,5 @@
 // A cell: its words are decoded here, and stores' write_cell encodes them; nothing else knows their order.
-ghost use Rattle.std.specs.Prelude.{◌≡◌, true, ◌&&◌, ◌≤◌, ◌<◌, pos, nat_abs, drop, fold, zip};
+ghost use Rattle.std.specs.Prelude.{◌≡◌, ◌≤◌, ◌<◌, pos, nat_abs, drop};
 ghost use Rattle.offer_rules.specs.Numbers.{eq_z, word};
 ghost use Rattle.offer_rules.specs.Offer.{proportion, ramp_up, ramp_down, pairs, sum_of};
 ghost use Rattle.book_rules.specs.Words.{cell_stamp};
@@ -7,28 +7,15 @@ ghost use Rattle.book_rules.specs.Refusals.{equal_words};
 ghost use Rattle.cells.specs.Meaning.{held_by};
 
 use layout::{cell, offer};
-use offers::sum_of;
+use offers::{sum_of, words_of_pairs};
 
-// The words of an offer's pairs; a cell's below. Both are last_chunk, which is generic already.
-pub(crate) fn pairs_of(offer: &[i32; offer::WORDS]) -> &[i32; offer::PAIR_WORDS]
-    ensures { result.now ≡ drop 3 offer.now }
-{
-    offer.last_chunk::<{ offer::PAIR_WORDS }>().unwrap()
-}
-
-// Whether each word is the same, asked of all without a branch.
-fn fold_same(held: &[i32], offer: &[i32]) -> bool
-    ensures { result ≡ fold (λ same p. same && eq_z p.0 p.1) true (zip held.now offer.now) }
+// Whether each word is the same, asked of all without a branch or a call.
+fn are_same(held: &[i32; offer::PAIR_WORDS], offer: &[i32; offer::PAIR_WORDS]) -> bool
+    ensures { result ≡ equal_words held.now offer.now }
 {
     held.iter()
         .zip(offer)
         .fold(true, |same, (x, y)| same & (*x == *y))
-}
-
-fn are_same(held: &[i32; offer::PAIR_WORDS], offer: &[i32; offer::PAIR_WORDS]) -> bool
-    ensures { result ≡ equal_words held.now offer.now }
-{
-    fold_same(held, offer)
 }
 
 // A cell's words, where they stand in the book.
@@ -95,7 +82,7 @@ impl<'a> Cell<'a> {
         let proportion = terms.proportion == offer[offer::PROPORTION];
         let up = terms.up == offer[offer::RAMP_UP];
         let down = terms.down == offer[offer::RAMP_DOWN];
-        let pairs = are_same(self.pairs(), pairs_of(offer));
+        let pairs = are_same(self.pairs(), words_of_pairs(offer));
         proportion & (up & (down & pairs))
     }
 }

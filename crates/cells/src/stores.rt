@@ -6,9 +6,9 @@ ghost use Rattle.book_rules.specs.Words.{put, cell_place, packed_ramps, ramps_fi
 ghost use Rattle.cells.specs.Meaning.{Sized, half_number};
 
 use crate::filing::Filing;
-use crate::held::pairs_of;
 use crate::places::CellPlace;
 use layout::{Sizes, cell, offer};
+use offers::words_of_pairs;
 use units::copy_words;
 
 // "ramp up times 10,000 plus ramp down"
@@ -31,7 +31,7 @@ fn write_cell(words: &mut [i32], filing: Filing<'_>)
     words[cell::PROPORTION] = offer[offer::PROPORTION];
     words[cell::RAMPS] = packed_ramps(offer[offer::RAMP_UP], offer[offer::RAMP_DOWN]);
     words[cell::MINUTE] = filing.minute.number as i32;
-    copy_words(&mut words[cell::PAIRS..cell::WORDS], pairs_of(offer));
+    copy_words(&mut words[cell::PAIRS..cell::WORDS], words_of_pairs(offer));
 }
 
 // "An accepted offer writes one cell's 24 words and no other word."

@@ -12,7 +12,7 @@ use crate::places::{CellPlace, Half};
 use layout::{Period, Sizes, Slot, answer, cell};
 
 // A book's words, and F and S as they hold them.
-// f and s are no fields: a total goes through every f, so each method takes those it is of.
+// f and s are no fields: a total goes through every f, and a view of one f and s would be made for a single look-up.
 #[derive(Clone, Copy, Debug, PartialEq, Eq)]
 pub struct Cells<'a> {
     pub words: &'a [i32],
@@ -23,24 +23,16 @@ pub struct Cells<'a> {
 impl<'a> Cells<'a> {
     ghost use Rattle.cells.specs.Meaning.{half_number, held_in, meaning, answer_of};
 
-    #[tactic(auto, using(std::proofs::lemmas::List::take_rest), unfolding(book_rules::specs::Words::part))]
-    fn cell(&self, place: CellPlace) -> Cell<'a>
-        requires { (place.f < self.now.sizes.facilities) × (place.s < self.now.sizes.services) }
-        ensures { result.words.now ≡ cell_in self.now.words.now place.f place.s (half_number place.half) place.slot.number }
-    {
-        let at = place.start(self.sizes);
-        Cell {
-            words: self.words[at..at + cell::WORDS].as_array().unwrap(),
-        }
-    }
-
     // The cell, where it has this stamp.
-    #[tactic(auto, unfolding(book_rules::specs::Book::held))]
+    #[tactic(auto, using(std::proofs::lemmas::List::take_rest), unfolding(book_rules::specs::Words::part, book_rules::specs::Book::held))]
     fn held(&self, place: CellPlace, stamp: u32) -> Option<Cell<'a>>
         requires { (place.f < self.now.sizes.facilities) × (place.s < self.now.sizes.services) × (stamp < 2147483648) }
         ensures { held_in result ≡ held stamp (cell_in self.now.words.now place.f place.s (half_number place.half) place.slot.number) }
     {
-        let cell = self.cell(place);
+        let at = place.start(self.sizes);
+        let cell = Cell {
+            words: self.words[at..at + cell::WORDS].as_array().unwrap(),
+        };
         cell.is_stamped(stamp).then_some(cell)
     }
 
@@ -77,6 +69,7 @@ impl<'a> Cells<'a> {
     {
         let mut t = Tally::default();
         // Facility numbers are values here: no slice is indexed by them.
+        // A loop: a fold was tried, and isn't proved, as its closure isn't told the bounds of the tally that it is given.
         for f in 0..self.sizes.facilities {
             t = t.with(self.in_force(f, s, period));
         }

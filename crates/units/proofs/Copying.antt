@@ -1,16 +1,26 @@
--- A list filled from the front, over any element, as a loop goes that writes over d.
+-- Lists written from the front, over any element.
 use mathlib.Core.Path.{◌≡◌, sym, ap, ◌∙◌}
-use mathlib.Core.List.{List, [], ◌∷◌, ◌++◌}
+use mathlib.Core.List.{List, [], ◌∷◌, ◌++◌, append-nil}
 use Prim.Native.Nat.{ℕ, suc, ◌+◌, ◌<◌}
 use native.Mathlib.Numerals.{add-one}
-use lib.ListN.{length, drop, get_or, set}
-use lib.Seq.{drop-cons, set_at, append_snoc}
+use native.Mathlib.Omega.{arith}
+use lib.ListN.{length, drop, get_or, set, length-drop, drop_of_length-le}
+use lib.Seq.{drop-cons, set_at, append_snoc, take_at, drop_at, sets, sets-eq}
+use borrow.Rule.Slice.PartMut.{put_mid}
 
 module _ {A : Type 0} where
-  -- A turn, where x is written before what d had.
+  -- A turn of a loop that writes over d, where x is written before what d had.
   pub written_more : (x d : List A) (i : ℕ) (v : A) → length x ≡ i → i < length d → set (x ++ drop i d) i v ≡ (x ++ (v ∷ [])) ++ drop (i + 1) d
   written_more x d i v e h =
       ap (λ (r : List A). set (x ++ r) i v) (drop-cons d i v h)
       ∙ set_at x (get_or d i v) (drop (suc i) d) v i e
       ∙ sym (append_snoc x v (drop (suc i) d))
       ∙ rw add-one
+
+  -- The first of d stored one by one, and the rest lent and written at once.
+  pub stored_then_lent : (d x y : List A) (i n : ℕ) → length x ≡ i → i + n ≡ length d → put_mid i n (sets d 0 x) y ≡ x ++ y
+  stored_then_lent d x y i n e h =
+      let first : 0 + length x ≡ i = omega arith in
+      let stored : sets d 0 x ≡ x ++ drop i d = sets-eq x d 0 (omega arith) ∙ ap (λ (k : ℕ). x ++ drop k d) first in
+      let past : drop n (drop i d) ≡ [] = drop_of_length-le (drop i d) (omega (arith, length-drop i d)) in
+      rw (stored, take_at x (drop i d) i e, drop_at x (drop i d) i e, past, append-nil y)

@@ -1,7 +1,7 @@
 // Prices and quantities as types of their own, the pairs of an offer, signed words as counts, and tests of words.
 #![tactic(auto)]
 
-ghost use Rattle.std.specs.Prelude.{◌≡◌, ℕ, [], ◌/◌, ◌<◌, length, slice_index_or, false, ◌||◌, fold};
+ghost use Rattle.std.specs.Prelude.{◌≡◌, ℕ, [], ◌/◌, ◌<◌, length, slice_index_or};
 ghost use Rattle.offer_rules.specs.Numbers.{to_nat, beyond, any_beyond};
 ghost use Rattle.offer_rules.specs.Offer.{is_blank, pairs_in};
 ghost use Rattle.units.specs.Typed.{pair_of, pairs_of, typed};
@@ -76,20 +76,13 @@ pub fn is_beyond(lo: i32, hi: i32, x: i32) -> bool
     !(lo..=hi).contains(&x)
 }
 
-// Whether a word is outside lo to hi, asked of all without a branch.
-fn fold_beyond(words: &[i32], lo: i32, hi: i32) -> bool
-    ensures { result ≡ fold (λ any x. any || beyond lo hi x) false words.now }
+// Any of the words outside lo to hi: asked of all without a branch.
+pub fn any_beyond(words: &[i32], lo: i32, hi: i32) -> bool
+    ensures { result ≡ any_beyond lo hi words.now 0 (length words.now) }
 {
     words
         .iter()
         .fold(false, |any, x| any | is_beyond(lo, hi, *x))
-}
-
-// Any of the words outside lo to hi.
-pub fn any_beyond(words: &[i32], lo: i32, hi: i32) -> bool
-    ensures { result ≡ any_beyond lo hi words.now 0 (length words.now) }
-{
-    fold_beyond(words, lo, hi)
 }
 
 // ---- words copied

@@ -1,12 +1,9 @@
-use Rattle.std.proofs.Common.{◌≡◌, ◌∙◌, ◌+◌, ◌++◌, ◌∷◌, [], List, ℤ, ap, sym, length, take, drop, get_or, pos, arith, rules, append_assoc, append-nil, length-append, length-take-le, length-set, to_z, of_z, w32, add-zero}
-use Rattle.std.proofs.lemmas.List.{take_more, take-append-drop}
+use Rattle.std.proofs.Common.{◌≡◌, ◌∙◌, ◌+◌, ◌++◌, ◌∷◌, [], List, ℤ, ap, sym, length, take, drop, get_or, pos, arith, rules, append_assoc, length-append, length-take-le, length-set, to_z, of_z, w32}
+use Rattle.std.proofs.lemmas.List.{take_more}
 use lib.Seq.{take_all}
 use Rattle.units.proofs.Copying.{written_more}
 use Rattle.book_rules.specs.Words.{put}
 use Rattle.cells.proofs.stores.store_words.Goals as goal
-
-pub loop-i-init : goal.loop-i-init
-loop-i-init c = (search rules, rw (append-nil, add-zero) (sym (take-append-drop c.args.at c.args.book.now)))
 
 pub loop-i-preserved : goal.loop-i-preserved
 loop-i-preserved c =

@@ -1,8 +1,8 @@
-use Rattle.std.proofs.Common.{rules}
+use Rattle.std.proofs.Common.{◌∙◌, refl, [], ◌∷◌, rules}
 use Rattle.book_rules.specs.Words.{cell}
-use Rattle.cells.proofs.Putting.{cell_written}
+use Rattle.units.proofs.Copying.{stored_then_lent}
 use Rattle.cells.proofs.stores.write_cell.Goals as goal
 
 pub returns-clause-written : goal.returns-clause-written
 unfolding cell
-returns-clause-written c = let long = c.requires in rw cell_written (search rules)
+returns-clause-written c = stored_then_lent c.args.words.now (_ ∷ (_ ∷ (_ ∷ (_ ∷ [])))) _ 4 20 refl (search rules) ∙ search rules
