@@ -53,7 +53,7 @@ impl<'a> Series<'a> {
     {
         let capability = self.facility.capability();
         refusals::check_kind(capability)?;
-        refusals::check_registration(capability, self.service.number)
+        refusals::check_registration(capability, self.service)
     }
 
     // 5, 9 and 10 of a standing offer, which ask for none of its words: its slot, where none is drawn.
