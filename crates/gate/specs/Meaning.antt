@@ -1,6 +1,6 @@
 -- The declared structs as the rule's records, and words as pairs.
 -- "first and last period" of a window are its two words; a facility's kind is its word.
-use Rattle.std.specs.Prelude.{◌≤◌, List, ℤ, length}
+use Rattle.std.specs.Prelude.{◌≤◌, List, [], ℤ, length, Option, None, Some}
 use Rattle.offer_rules.specs.Offer.{pairs_in, BlanksLast}
 use Rattle.offer_rules.specs.Gate as rule
 use Rattle.gate.specs.declared.Window.{Window}
@@ -28,3 +28,12 @@ words_of (Held words) = words.now
 abbrev pub IsLent : Offer → Type 0
 IsLent (Filed words) = BlanksLast (pairs_in words.now)
 IsLent (Held words) = length words.now ≤ 20
+
+-- The same of no offer, which has no words and of which nothing is asked.
+abbrev pub words_in : Option Offer → List ℤ
+words_in None = []
+words_in (Some o) = words_of o
+
+abbrev pub AreLent : Option Offer → Type 0
+AreLent None = Unit {0}
+AreLent (Some o) = IsLent o

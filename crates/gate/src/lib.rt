@@ -1,35 +1,24 @@
 // Gate closure, refusal 17: prices compared tenth by tenth, and the reasons.
 #![tactic(auto)]
 
-ghost use Rattle.std.specs.Prelude.{◌≡◌, true, not, ◌&&◌, ◌+◌, ◌-◌, ◌*◌, ◌≤◌, ◌<◌, ltb, length, drop};
+ghost use Rattle.std.specs.Prelude.{◌≡◌, true, not, ◌&&◌, ◌≤◌, ◌<◌, ltb, length, drop};
 ghost use Rattle.offer_rules.specs.Numbers.{eq_z};
 ghost use Rattle.offer_rules.specs.Kinds.{admits};
 ghost use Rattle.offer_rules.specs.Offer.{pairs_in, all_blank, filled_part, BlanksAfter, BlanksLast};
 ghost use Rattle.offer_rules.specs.Gate.{tenths_of, total_tenths, same_prices, covers, is_open, admits_service, period_covered, total_moved, is_excepted};
 ghost use Rattle.units.specs.Typed.{pair_of, pairs_of};
 ghost use Rattle.gate.specs.Differing.{first_differing, tenth_or_none};
-ghost use Rattle.gate.specs.Meaning.{window_of, grounds_of, words_of, IsLent};
+ghost use Rattle.gate.specs.Meaning.{window_of, grounds_of, words_in, AreLent};
 
 use kinds::admits;
-use layout::{Minute, facility, time};
+use layout::{Minute, offer, service, time};
 use units::{Pair, nat, pair_words};
 
-// The periods of an outage or a notice.
+// The periods of an outage or a notice. No `kinds::Range`: the rule has one word for 32-bit words, `covers`, and one for bytes, `is_in`.
 #[derive(Clone, Copy, Debug, PartialEq, Eq)]
 pub struct Window {
     pub first: i32,
     pub last: i32,
-}
-
-impl Window {
-    #[tactic(auto, unfolding(offer_rules::specs::Gate::covers))]
-    fn covers(self, period: u64) -> bool
-        requires { period < 2147483648 }
-        ensures { result ≡ covers (window_of self) period }
-    {
-        // `as`, proved to lose nothing: a `try_from` would be tested as it runs.
-        (self.first..=self.last).contains(&(period as i32))
-    }
 }
 
 // What a reason is held against: the facility's kind and outage window, and the three notices.
@@ -51,25 +40,36 @@ pub struct Filing {
     pub ghost period_fits: { period < 2147483648 },
 }
 
+impl Window {
+    #[tactic(auto, unfolding(offer_rules::specs::Gate::covers))]
+    fn covers(self, filing: Filing) -> bool
+        ensures { result ≡ covers (window_of self) filing.period }
+    {
+        // `as`, proved to lose nothing: a `try_from` would be tested as it runs.
+        (self.first..=self.last).contains(&(filing.period as i32))
+    }
+}
+
 // An offer, lent as its pairs' words: price, quantity, price, quantity ..
-#[derive(Clone, Copy, Debug)]
+#[derive(Clone, Copy, Debug, PartialEq, Eq)]
 pub enum Offer<'a> {
     // All ten pairs, of which "all non-blank pairs come first".
-    Filed(&'a [i32; 20]),
-    // "A held offer, which may be older": as many pairs as there are, none where there is no offer, and blanks anywhere.
+    Filed(&'a [i32; offer::PAIR_WORDS]),
+    // "A held offer, which may be older": at most ten pairs, and blanks anywhere.
     Held(&'a [i32]),
 }
 
 // ---- how far an offer is walked
 
 // The pairs of an offer that are walked: its first ones, after which it has blanks alone.
-#[derive(Clone, Copy, Debug)]
+#[derive(Clone, Copy, Debug, PartialEq, Eq)]
 struct Walk<'a> {
     pairs: &'a [[i32; 2]],
     ghost at_most_ten: { length pairs.now ≤ 10 },
 }
 
 // How many pairs stand before the first blank.
+#[tactic(auto, using(crate::proofs::Blanks::filled_until))]
 fn filled_count(pairs: &[[i32; 2]]) -> usize
     ensures { (result ≡ length (filled_part (pairs_of pairs.now))) × (result ≤ length pairs.now) }
 {
@@ -80,6 +80,7 @@ fn filled_count(pairs: &[[i32; 2]]) -> usize
 }
 
 // How many pairs there are up to the last that isn't blank.
+#[tactic(auto, using(crate::proofs::Blanks::blank_from))]
 fn count_to_last(pairs: &[[i32; 2]]) -> usize
     ensures { (result ≤ length pairs.now) × (all_blank (pairs_of (drop result pairs.now)) ≡ true) }
 {
@@ -90,7 +91,8 @@ fn count_to_last(pairs: &[[i32; 2]]) -> usize
 }
 
 // Of a filed offer the pairs before its first blank, since "all non-blank pairs come first".
-fn filed_walk(words: &[i32; 20]) -> Walk<'_>
+#[tactic(auto, using(crate::proofs::Blanks::part_lent))]
+fn filed_walk(words: &[i32; offer::PAIR_WORDS]) -> Walk<'_>
     requires { BlanksLast (pairs_in words.now) }
     ensures { BlanksAfter (pairs_of result.pairs.now) (pairs_in words.now) }
 {
@@ -102,6 +104,7 @@ fn filed_walk(words: &[i32; 20]) -> Walk<'_>
 }
 
 // A held offer "is still walked to its last pair", whatever blanks stand before that; those after it hold no tenths.
+#[tactic(auto, using(crate::proofs::Blanks::blanks_from))]
 fn held_walk(words: &[i32]) -> Walk<'_>
     requires { length words.now ≤ 20 }
     ensures { BlanksAfter (pairs_of result.pairs.now) (pairs_in words.now) }
@@ -113,14 +116,17 @@ fn held_walk(words: &[i32]) -> Walk<'_>
     }
 }
 
-impl<'a> Offer<'a> {
-    fn walk(self) -> Walk<'a>
-        requires { IsLent self }
-        ensures { BlanksAfter (pairs_of result.pairs.now) (pairs_in (words_of self.entry)) }
+impl<'a> Walk<'a> {
+    // No offer has no pairs.
+    #[tactic(auto, using(offer_rules::proofs::Blanks::whole), unfolding(offer_rules::specs::Offer::pairs_in))]
+    fn of(offer: Option<Offer<'a>>) -> Walk<'a>
+        requires { AreLent offer }
+        ensures { BlanksAfter (pairs_of result.pairs.now) (pairs_in (words_in offer.entry)) }
     {
-        match self {
-            Offer::Filed(words) => filed_walk(words),
-            Offer::Held(words) => held_walk(words),
+        match offer {
+            Some(Offer::Filed(words)) => filed_walk(words),
+            Some(Offer::Held(words)) => held_walk(words),
+            None => Walk { pairs: &[] },
         }
     }
 }
@@ -157,13 +163,14 @@ impl Walk<'_> {
     // The lowest n from 1 to the smaller total whose tenth differs in price.
     // A step passes the pair with fewer tenths left, a of old's or b of new's, or both where they are as many: an offer that only adds to old is walked through
     // in as many steps as it has pairs.
-    #[tactic(auto, using(crate::proofs::Steps::old_ended, crate::proofs::Steps::new_ended))]
+    #[tactic(auto, using(crate::proofs::Steps::start_is_whole, crate::proofs::Steps::differing, crate::proofs::Steps::old_ended, crate::proofs::Steps::new_ended))]
     fn first_differing_tenth(self, new: Walk) -> Option<u64>
         ensures { result ≡ tenth_or_none (first_differing (pairs_of self.entry.pairs.now) (pairs_of new.entry.pairs.now)) }
     {
         let (mut old, mut old_used) = (self.pairs, 0);
         let (mut new, mut new_used) = (new.pairs, 0);
         let mut passed = 0;
+        // A `while let`: two slices that shrink at different steps, which no iterator of std's does.
         while let ([x, ..], [y, ..]) = (old, new) {
             let x = Pair::from(x);
             let y = Pair::from(y);
@@ -204,7 +211,7 @@ fn admits_service(service: u8, reason: u8) -> bool
     ensures { result ≡ admits_service service reason }
 {
     match reason {
-        3 => service == facility::ENERGY,
+        3 => service == service::ENERGY,
         0..=2 | 4..=255 => true,
     }
 }
@@ -214,12 +221,11 @@ fn admits_service(service: u8, reason: u8) -> bool
 fn is_period_covered(g: Grounds, filing: Filing) -> bool
     ensures { result ≡ period_covered (grounds_of g) filing.period filing.reason }
 {
-    let Filing { period, reason, .. } = filing;
-    match reason {
-        2 | 6 => g.outage.covers(period),
-        3 => g.surplus.covers(period),
-        4 => g.shortfall.covers(period),
-        5 => g.status.covers(period),
+    match filing.reason {
+        2 | 6 => g.outage.covers(filing),
+        3 => g.surplus.covers(filing),
+        4 => g.shortfall.covers(filing),
+        5 => g.status.covers(filing),
         0 | 1 | 7..=255 => true,
     }
 }
@@ -253,16 +259,17 @@ fn is_admitted(g: Grounds, filing: Filing) -> bool
         && is_period_covered(g, filing)
 }
 
-// Whether a filing inside gate closure is excepted, of a variation and of a standing offer over a held one; old holds no pairs where no offer is in force. New is the
+// Whether a filing inside gate closure is excepted, of a variation and of a standing offer over a held one. Old is the offer in force, if there is one. New is the
 // filed one, or where a variation is taken back a held one, or none.
-pub fn is_excepted(g: Grounds, filing: Filing, old: &[i32], new: Offer) -> bool
-    requires { (length old.now ≤ 20) × IsLent new }
-    ensures { result ≡ is_excepted (grounds_of g) filing.service filing.period filing.reason (pairs_in old.now) (pairs_in (words_of new.entry)) }
+#[tactic(auto, using(crate::proofs::Admitted::not_admitted))]
+pub fn is_excepted(g: Grounds, filing: Filing, old: Option<Offer>, new: Option<Offer>) -> bool
+    requires { AreLent old × AreLent new }
+    ensures { result ≡ is_excepted (grounds_of g) filing.service filing.period filing.reason (pairs_in (words_in old.entry)) (pairs_in (words_in new.entry)) }
 {
     if !is_admitted(g, filing) {
         return false;
     }
-    let before = Offer::Held(old).walk();
-    let after = new.walk();
+    let before = Walk::of(old);
+    let after = Walk::of(new);
     is_total_moved(filing.reason, before, after) && before.same_prices(after)
 }

@@ -1,15 +1,15 @@
--- What an offer that passes 12 has, and the gate before closure and from it on.
-use Rattle.std.proofs.Common.{◌≡◌, ℕ, List, true, false, not}
-use Rattle.offer_rules.specs.Numbers.{draw}
-use Rattle.offer_rules.specs.Offer.{Pair, BlanksLast, blank_before_filled, NoneBeforeFilled}
+-- What an offer is admitted by, and the gate before closure and from it on.
+use Rattle.std.proofs.Common.{◌≡◌, sym, Bool, true, false, not, ℕ, ℤ, List}
+use Rattle.offer_rules.specs.Numbers.{draw, ◌then◌}
+use Rattle.offer_rules.specs.Offer.{Pair}
 use Rattle.offer_rules.specs.Gate.{Grounds, is_excepted, is_open, gate_refuses}
-use Rattle.offer_rules.proofs.Blanks.{none_before_filled}
-use Rattle.book_rules.specs.Refusals.{gate_number}
+use Rattle.layout.proofs.Chains.{then_apart}
+use Rattle.book_rules.specs.Refusals.{facility_number, registration_number, gate_number, admission_number}
 
--- "all non-blank pairs come first"
-pub no_blank_before : (l : List Pair) → BlanksLast l → blank_before_filled l ≡ false
-unfolding NoneBeforeFilled
-no_blank_before l h = (none_before_filled l).1 h
+-- 5 and 9 of an offer are tested together, then 10.
+pub admission_parts : (c : List ℤ) (s : ℕ) (refused : Bool) → admission_number c s refused ≡ ((facility_number c then registration_number c s) then draw refused 10)
+unfolding admission_number
+admission_parts c s refused = sym (then_apart (facility_number c) (registration_number c s) (draw refused 10))
 
 -- From closure on an offer draws 17 where it isn't excepted.
 pub shut_draws : (now : ℕ) (g : Grounds) (s p reason : ℕ) (old new : List Pair) → is_open now p ≡ false → gate_number now g s p reason old new ≡ draw (not (is_excepted g s p reason old new)) 17

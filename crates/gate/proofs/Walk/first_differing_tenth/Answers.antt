@@ -1,20 +1,8 @@
-use Rattle.std.proofs.Common.{◌≡◌, ◌<◌, ◌+◌, ◌-◌, true, false, ap, sym, length, ◌∙◌, rules, arith, add-one, take, drop, length-drop}
-use Rattle.gate.specs.Differing.{tenth_or_none}
-use Rattle.units.specs.Typed.{pairs_of}
-use Rattle.gate.proofs.Steps.{start_is_whole, left_old, left_new, first_differ, differing, past_old, past_new, past_both}
+use Rattle.std.proofs.Common.{◌≡◌, ◌<◌, ◌+◌, ◌-◌, false, length, ◌∙◌, rules, arith, take, drop, length-drop}
+use Rattle.gate.proofs.Steps.{left_old, left_new, first_differ, past_old, past_new, past_both}
 use Rattle.std.proofs.lemmas.Grind.{common_steps}
 use Rattle.gate.proofs.Walk.first_differing_tenth.Goals as goal
 use Rattle.gate.proofs.Walk.first_differing_tenth.Goals.{then-a-b, else-a-b+then-a-b-2, else-a-b+else-a-b-2}
-
-pub loop-old-init : goal.loop-old-init
-loop-old-init c = (omega arith, omega arith, omega arith, start_is_whole (pairs_of c.args.self.pairs.now) (pairs_of c.args.new.pairs.now))
-
-pub returns-then-differ : goal.returns-then-differ
-returns-then-differ c =
-    let s = c.loop-old in
-    let f : first_differ s.old.now s.new.now s.old_used s.new_used s.passed ≡ true = cc in
-    let e = differing s.old.now s.new.now s.old_used s.new_used s.passed (search rules) (search rules) f in
-    rw add-one (ap tenth_or_none (sym (rw add-one at e) ∙ s.invariant.3))
 
 pub loop-old-preserved : goal.loop-old-preserved
 loop-old-preserved c =

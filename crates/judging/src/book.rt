@@ -1,6 +1,6 @@
 // A book that passes 1, and its head.
 // Conversions stay `as`, proved to lose nothing: of u64 and usize there is no From, and a `try_from` would be tested as it runs.
-ghost use Rattle.std.specs.Prelude.{◌≡◌, ◌+◌, ◌≤◌, ◌<◌, length};
+ghost use Rattle.std.specs.Prelude.{◌≡◌, ◌+◌, ◌≤◌, ◌<◌, length, IfOk};
 ghost use Rattle.offer_rules.specs.Numbers.{to_nat, word};
 ghost use Rattle.offer_rules.specs.Time.{next_period};
 ghost use Rattle.offer_rules.specs.Gate.{is_open};
@@ -13,12 +13,12 @@ ghost use Rattle.judging.specs.Usable.{Usable};
 
 use cells::Cells;
 use gate::{Window, is_before_closure};
-use layout::{Minute, Refusal, Slot, head, refuse_if};
+use layout::{Minute, Period, Refusal, Sizes, Slot, head, refuse_if};
 use offers::is_period_refused;
 use periods::bilzhaan_next_period;
 use units::nat;
 
-#[derive(Clone, Copy)]
+#[derive(Clone, Copy, Debug, PartialEq, Eq)]
 pub struct Book<'a> {
     pub words: &'a [i32],
     pub ghost usable: { Usable words.now },
@@ -38,6 +38,15 @@ impl<'a> Book<'a> {
         nat(self.words[head::SERVICES]) as usize
     }
 
+    pub fn sizes(&self) -> Sizes
+        ensures { (result.facilities ≡ facilities_in self.now.words.now) × (result.services ≡ services_in self.now.words.now) }
+    {
+        Sizes {
+            facilities: self.facilities(),
+            services: self.services(),
+        }
+    }
+
     pub fn clock(&self) -> Minute
         ensures { result.number ≡ to_nat (word self.now.words.now clock_place) }
     {
@@ -47,18 +56,17 @@ impl<'a> Book<'a> {
     }
 
     pub fn cells(&self) -> Cells<'a>
-        ensures { (result.words.now ≡ self.now.words.now) × (result.facilities ≡ facilities_in self.now.words.now) × (result.services ≡ services_in self.now.words.now) }
+        ensures { (result.words.now ≡ self.now.words.now) × (result.sizes.facilities ≡ facilities_in self.now.words.now) × (result.sizes.services ≡ services_in self.now.words.now) }
     {
         Cells {
             words: self.words,
-            facilities: self.facilities(),
-            services: self.services(),
+            sizes: self.sizes(),
         }
     }
 
     // Lowest and highest prices.
     #[tactic(auto, using(std::proofs::lemmas::List::take_rest), unfolding(book_rules::specs::Words::part))]
-    pub(crate) fn limits(&self) -> &'a [i32; 6]
+    pub(crate) fn limits(&self) -> &'a [i32; head::LIMIT_COUNT]
         ensures { result.now ≡ part limits_place 6 self.now.words.now }
     {
         self.words[head::LIMITS..head::LIMITS_END]
@@ -79,28 +87,33 @@ impl<'a> Book<'a> {
 
     // 10 for P. Where it isn't drawn, P lies within the horizon of a clock in time.
     #[tactic(auto, using(layout::proofs::Chains::draw_most, crate::proofs::Near::not_far), unfolding(book_rules::specs::Refusals::period_number))]
-    pub fn check_period(&self, period: i32) -> Result<(), Refusal>
+    pub fn check_period(&self, period: i32) -> Result<Period, Refusal>
         ensures number { drawn result ≡ period_number (to_nat (word self.now.words.now clock_place)) period }
         ensures bound { drawn result ≤ 10 }
         ensures near { drawn result ≡ 0 → to_nat period < 40000000 }
+        ensures period { IfOk result (λ p. p.number ≡ to_nat period) }
     {
         let refused = is_period_refused(self.clock().number, period);
-        refuse_if(refused, Refusal::Period)
+        refuse_if(refused, Refusal::Period)?;
+        Ok(Period {
+            number: nat(period),
+        })
     }
 
-    pub(crate) fn is_before_closure(&self, period: u64) -> bool
-        requires { period < 2147483648 }
-        ensures { result ≡ is_open (to_nat (word self.now.words.now clock_place)) period }
+    pub(crate) fn is_before_closure(&self, period: Period) -> bool
+        ensures { result ≡ is_open (to_nat (word self.now.words.now clock_place)) period.number }
     {
-        is_before_closure(self.clock(), period)
+        is_before_closure(self.clock(), period.number)
     }
 
     // "the slot's next period not yet begun"
-    #[tactic(auto, using(offer_rules::proofs::Periods::next_is_near), unfolding(offer_rules::specs::Time::slot_of))]
-    pub(crate) fn next_period(&self, slot: Slot) -> usize
-        ensures { (result ≡ next_period (to_nat (word self.now.words.now clock_place)) slot.number) × (result < 2147483647) }
+    #[tactic(auto, using(crate::proofs::Near::own_slot, crate::proofs::Near::next_has_stamp))]
+    pub(crate) fn next_period(&self, slot: Slot) -> Period
+        ensures { result.number ≡ next_period (to_nat (word self.now.words.now clock_place)) slot.number }
     {
         let next = bilzhaan_next_period(self.clock().number as u32, slot.number as u32);
-        next as usize
+        Period {
+            number: u64::from(next),
+        }
     }
 }

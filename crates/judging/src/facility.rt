@@ -8,14 +8,14 @@ ghost use Rattle.book_rules.specs.Record.{facility_of};
 ghost use Rattle.book_rules.specs.Words.{part, clock_place, facility_place};
 ghost use Rattle.book_rules.specs.Refusals.{facility_number, gate_number, grounds};
 ghost use Rattle.book_rules.specs.Book.{facilities_in, book_view};
-ghost use Rattle.gate.specs.Meaning.{grounds_of, words_of, IsLent};
+ghost use Rattle.gate.specs.Meaning.{grounds_of, words_in, AreLent};
 ghost use Rattle.judging.specs.Usable.{Usable};
 
-use crate::words::Book;
+use crate::book::Book;
 use gate::{Filing, Grounds, Offer, is_excepted};
 use layout::{Refusal, facility, fields, head, refuse_if};
 
-#[derive(Clone, Copy)]
+#[derive(Clone, Copy, Debug, PartialEq, Eq)]
 pub struct Facility<'a> {
     pub book: Book<'a>,
     pub f: usize,
@@ -76,18 +76,17 @@ impl<'a> Facility<'a> {
         }
     }
 
-    // 17 inside gate closure, with the pairs of old and those of new.
+    // 17 inside gate closure, of old and new.
     #[tactic(auto, using(crate::proofs::Stages::shut_draws, layout::proofs::Chains::draw_most))]
     pub(crate) fn check_gate(
         &self,
         filing: Filing,
-        old: &[i32],
-        new: Offer<'_>,
+        old: Option<Offer<'_>>,
+        new: Option<Offer<'_>>,
     ) -> Result<(), Refusal>
-        requires ten { length old.now ≤ 20 }
-        requires lent { IsLent new }
+        requires lent { AreLent old × AreLent new }
         requires shut { is_open (to_nat (word self.now.book.words.now clock_place)) filing.period ≡ false }
-        ensures number { drawn result ≡ gate_number (to_nat (word self.now.book.words.now clock_place)) (grounds (book_view self.now.book.words.now) self.now.f) filing.service filing.period filing.reason (pairs_in old.now) (pairs_in (words_of new.entry)) }
+        ensures number { drawn result ≡ gate_number (to_nat (word self.now.book.words.now clock_place)) (grounds (book_view self.now.book.words.now) self.now.f) filing.service filing.period filing.reason (pairs_in (words_in old.entry)) (pairs_in (words_in new.entry)) }
         ensures bound { drawn result ≤ 17 }
     {
         let excepted = is_excepted(self.grounds(), filing, old, new);

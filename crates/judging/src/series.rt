@@ -1,0 +1,207 @@
+// A facility's offers for one service.
+// `nat(..) as usize` loses nothing: of u64 and usize there is no From.
+ghost use Rattle.std.specs.Prelude.{◌≡◌, ◌≤◌, ◌<◌, IfOk};
+ghost use Rattle.offer_rules.specs.Numbers.{to_nat, word, ◌then◌};
+ghost use Rattle.offer_rules.specs.Time.{slot_refused, period_refused, next_period};
+ghost use Rattle.offer_rules.specs.Offer.{pairs_in, pairs, offer_number};
+ghost use Rattle.layout.specs.Refusal.{drawn};
+ghost use Rattle.book_rules.specs.Record.{facility_of, service_of};
+ghost use Rattle.book_rules.specs.Words.{part, clock_place, limits_place, facility_place};
+ghost use Rattle.book_rules.specs.Force.{in_force, will_stand, pairs_of};
+ghost use Rattle.book_rules.specs.Refusals.{facility_number, registration_number, gate_number, admission_number, revision_number, admitted_standing, grounds};
+ghost use Rattle.book_rules.specs.Book.{facilities_in, services_in, book_view};
+ghost use Rattle.offers.specs.PairTests.{UsesFive};
+ghost use Rattle.gate.specs.Meaning.{words_in, AreLent};
+ghost use Rattle.cells.specs.Meaning.{held_by};
+ghost use Rattle.judging.specs.Usable.{Usable};
+
+use crate::facility::Facility;
+use cells::Cell;
+use gate::{Filing, Offer};
+use layout::{Period, Refusal, Service, Slot, fields, offer, refuse_if};
+use offers::{Passed, is_slot_refused};
+use units::nat;
+
+#[derive(Clone, Copy, Debug, PartialEq, Eq)]
+pub struct Series<'a> {
+    pub facility: Facility<'a>,
+    pub service: Service,
+    pub ghost inside: { service.number < services_in facility.book.words.now },
+}
+
+impl<'a> Series<'a> {
+    // The ones that a record names.
+    pub fn named(book: &'a [i32], bytes: &[u8; fields::BYTES]) -> Series<'a>
+        requires usable { Usable book.now }
+        requires facility_in { facility_of bytes.now < facilities_in book.now }
+        requires service_in { service_of bytes.now < services_in book.now }
+        ensures { (result.facility.book.words.now ≡ book.now) × (result.facility.f ≡ facility_of bytes.now) × (result.service.number ≡ service_of bytes.now) }
+    {
+        Series {
+            facility: Facility::named(book, bytes),
+            service: Service {
+                number: bytes[fields::SERVICE],
+            },
+        }
+    }
+
+    // 5 and 9 of an offer.
+    #[tactic(auto, using(layout::proofs::Chains::passed_first, layout::proofs::Chains::refused_first))]
+    fn check_registered(&self) -> Result<(), Refusal>
+        ensures number { drawn result ≡ (facility_number (part (facility_place self.now.facility.f) 17 self.now.facility.book.words.now) then registration_number (part (facility_place self.now.facility.f) 17 self.now.facility.book.words.now) self.now.service.number) }
+        ensures bound { drawn result ≤ 9 }
+    {
+        let capability = self.facility.capability();
+        refusals::check_kind(capability)?;
+        refusals::check_registration(capability, self.service)
+    }
+
+    // 5, 9 and 10 of a standing offer, which ask for none of its words: its slot, where none is drawn.
+    #[tactic(auto, using(layout::proofs::Chains::passed_first, layout::proofs::Chains::refused_first, crate::proofs::Stages::admission_parts, crate::proofs::Near::in_week))]
+    pub fn admit_standing(&self, slot: i32) -> Result<Slot, Refusal>
+        ensures number { drawn result ≡ admission_number (part (facility_place self.now.facility.f) 17 self.now.facility.book.words.now) self.now.service.number (slot_refused slot) }
+        ensures bound { drawn result ≤ 10 }
+        ensures slot { IfOk result (λ k. k.number ≡ to_nat slot) }
+    {
+        self.check_registered()?;
+        refuse_if(is_slot_refused(slot), Refusal::Period)?;
+        Ok(Slot {
+            number: nat(slot) as usize,
+        })
+    }
+
+    // 5, 9 and 10 of a variation: its period.
+    #[tactic(auto, using(layout::proofs::Chains::passed_first, layout::proofs::Chains::refused_first, crate::proofs::Stages::admission_parts), unfolding(book_rules::specs::Refusals::period_number))]
+    pub fn admit_variation(&self, period: i32) -> Result<Period, Refusal>
+        ensures number { drawn result ≡ admission_number (part (facility_place self.now.facility.f) 17 self.now.facility.book.words.now) self.now.service.number (period_refused (to_nat (word self.now.facility.book.words.now clock_place)) period) }
+        ensures bound { drawn result ≤ 10 }
+        ensures period { IfOk result (λ p. p.number ≡ to_nat period) }
+    {
+        self.check_registered()?;
+        self.facility.book.check_period(period)
+    }
+
+    // 11 to 16 of an offer, under the book's limits and the facility's capability.
+    pub fn check_offer<'b>(
+        &self,
+        reason: u8,
+        offer: &'b [i32; offer::WORDS],
+    ) -> Result<Passed<'b>, Refusal>
+        requires { UsesFive self.now.service.number offer.now }
+        ensures number { drawn result ≡ offer_number (part limits_place 6 self.now.facility.book.words.now) (part (facility_place self.now.facility.f) 17 self.now.facility.book.words.now) self.now.service.number reason offer.now }
+        ensures bound { drawn result ≤ 16 }
+        ensures passed { IfOk result (λ p. (p.reason ≡ reason) × (p.offer.now ≡ offer.now)) }
+    {
+        offers::check_offer(
+            self.facility.book.limits(),
+            self.facility.capability(),
+            self.service,
+            reason,
+            offer,
+        )
+    }
+
+    // ---- the gate
+
+    // "old", the offer in force before the call
+    #[tactic(auto, unfolding(offer_rules::specs::Offer::pairs_in, book_rules::specs::Force::pairs_of))]
+    fn before(&self, period: Period) -> Option<Offer<'a>>
+        ensures lent { AreLent result }
+        ensures pairs { pairs_in (words_in result) ≡ pairs_of (in_force (book_view self.now.facility.book.words.now) self.now.facility.f self.now.service.number period.number) }
+    {
+        let cells = self.facility.book.cells();
+        let old = cells.in_force(self.facility.f, self.service.place(), period);
+        old.map(|old| Offer::Held(old.pairs()))
+    }
+
+    // "the offer that will stand afterwards": the filed one, or where it is all blank the slot's standing offer, or none where none is held.
+    #[tactic(auto, using(offer_rules::proofs::Blanks::none_before), unfolding(offer_rules::specs::Offer::pairs_in, offer_rules::specs::Offer::pairs, book_rules::specs::Force::pairs_of, book_rules::specs::Force::first_of, book_rules::specs::Force::variation_made, book_rules::specs::Force::will_stand))]
+    fn afterwards<'b>(&'b self, period: Period, filed: Passed<'b>) -> Option<Offer<'b>>
+        ensures lent { AreLent result }
+        ensures pairs { pairs_in (words_in result) ≡ pairs_of (will_stand (book_view self.now.facility.book.words.now) self.now.facility.f self.now.service.number period.number filed.entry.offer.now) }
+    {
+        if !filed.is_all_blank() {
+            return Some(Offer::Filed(filed.pairs()));
+        }
+        let cells = self.facility.book.cells();
+        let held = cells.held_standing(self.facility.f, self.service.place(), period.slot());
+        held.map(|held| Offer::Held(held.pairs()))
+    }
+
+    // 17 of a variation. Before closure, where most are filed, no offer is looked up.
+    // "The gate compares old with the offer that will stand afterwards".
+    #[tactic(auto, using(crate::proofs::Stages::open_draws_none))]
+    pub fn check_variation_gate(&self, period: Period, filed: Passed<'_>) -> Result<(), Refusal>
+        ensures number { drawn result ≡ gate_number (to_nat (word self.now.facility.book.words.now clock_place)) (grounds (book_view self.now.facility.book.words.now) self.now.facility.f) self.now.service.number period.number filed.entry.reason (pairs_of (in_force (book_view self.now.facility.book.words.now) self.now.facility.f self.now.service.number period.number)) (pairs_of (will_stand (book_view self.now.facility.book.words.now) self.now.facility.f self.now.service.number period.number filed.entry.offer.now)) }
+        ensures bound { drawn result ≤ 17 }
+    {
+        if self.facility.book.is_before_closure(period) {
+            return Ok(());
+        }
+        let filing = Filing {
+            service: self.service.number,
+            period: period.number,
+            reason: filed.reason,
+        };
+        let old = self.before(period);
+        let new = self.afterwards(period, filed);
+        self.facility.check_gate(filing, old, new)
+    }
+
+    // ---- a standing offer over a held one
+
+    // 17 of a standing offer over the held one. Before closure, where most are filed, no window and no pair is read.
+    #[tactic(auto, using(crate::proofs::Stages::open_draws_none, offer_rules::proofs::Blanks::none_before), unfolding(offer_rules::specs::Offer::pairs))]
+    fn check_standing_gate(
+        &self,
+        slot: Slot,
+        held: Cell<'_>,
+        filed: Passed<'_>,
+    ) -> Result<(), Refusal>
+        ensures number { drawn result ≡ gate_number (to_nat (word self.now.facility.book.words.now clock_place)) (grounds (book_view self.now.facility.book.words.now) self.now.facility.f) self.now.service.number (next_period (to_nat (word self.now.facility.book.words.now clock_place)) slot.number) filed.entry.reason (pairs (held_by held.entry).offer) (pairs filed.entry.offer.now) }
+        ensures bound { drawn result ≤ 17 }
+    {
+        let next = self.facility.book.next_period(slot);
+        if self.facility.book.is_before_closure(next) {
+            return Ok(());
+        }
+        let filing = Filing {
+            service: self.service.number,
+            period: next.number,
+            reason: filed.reason,
+        };
+        let old = Some(Offer::Held(held.pairs()));
+        let new = Some(Offer::Filed(filed.pairs()));
+        self.facility.check_gate(filing, old, new)
+    }
+
+    // 17, then 18 where it is equal to the held one. "A first one always passes the gate."
+    #[tactic(auto, using(layout::proofs::Chains::passed_first, layout::proofs::Chains::refused_first, layout::proofs::Chains::draw_most), unfolding(book_rules::specs::Refusals::revision_number, book_rules::specs::Refusals::over_held))]
+    fn check_revision(&self, slot: Slot, filed: Passed<'_>) -> Result<(), Refusal>
+        ensures number { drawn result ≡ revision_number (to_nat (word self.now.facility.book.words.now clock_place)) (grounds (book_view self.now.facility.book.words.now) self.now.facility.f) self.now.service.number slot.number filed.entry.reason ((book_view self.now.facility.book.words.now).standing self.now.facility.f self.now.service.number slot.number) filed.entry.offer.now }
+        ensures bound { drawn result ≤ 18 }
+    {
+        let cells = self.facility.book.cells();
+        let Some(held) = cells.held_standing(self.facility.f, self.service.place(), slot) else {
+            return Ok(());
+        };
+        self.check_standing_gate(slot, held, filed)?;
+        refuse_if(held.is_same_offer(filed.offer), Refusal::Duplicate)
+    }
+
+    // 11 to 18 of a standing offer that is admitted.
+    #[tactic(auto, using(layout::proofs::Chains::passed_first, layout::proofs::Chains::refused_first), unfolding(book_rules::specs::Refusals::admitted_standing, book_rules::specs::Book::book_view))]
+    pub fn check_standing(
+        &self,
+        slot: Slot,
+        reason: u8,
+        offer: &[i32; offer::WORDS],
+    ) -> Result<(), Refusal>
+        requires { UsesFive self.now.service.number offer.now }
+        ensures number { drawn result ≡ admitted_standing (book_view self.now.facility.book.words.now) self.now.facility.f self.now.service.number slot.number reason offer.now }
+        ensures bound { drawn result ≤ 18 }
+    {
+        let filed = self.check_offer(reason, offer)?;
+        self.check_revision(slot, filed)
+    }
+}
