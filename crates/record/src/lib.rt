@@ -1,18 +1,17 @@
 // A record's bytes: its words, the bytes that its call uses, and refusals 2, 3 and 4 of it.
-// The gateway's C program calls bilzhaan_record_test.
 #![tactic(auto)]
 
-ghost use Rattle.std.specs.Prelude.{◌≡◌, ℕ, ◌+◌, ◌*◌, ◌-◌, ◌≤◌, length, drop, ◌&&◌, ◌||◌, IfOk};
-ghost use Rattle.book_rules.specs.Record.{word_at, words_at, offer_in, capability_in};
+ghost use Rattle.std.specs.Prelude.{◌≡◌, ℕ, ◌+◌, ◌*◌, ◌≤◌, length, drop, not, ◌&&◌, ◌||◌, eqb, IfOk};
+ghost use Rattle.std.specs.List.{list_any};
+ghost use Rattle.book_rules.specs.Record.{word_at, words_at, period_word, offer_in, capability_in};
 ghost use Rattle.book_rules.specs.Record.{used, is_record, outside, any_stray, has_stray};
 ghost use Rattle.book_rules.specs.Record.{record_number, sizes_ok, record_test};
 ghost use Rattle.layout.specs.Refusal.{drawn};
-ghost use Rattle.record.specs.Gaps.{any_set};
 
 use layout::fields::{
-    A, B, BYTES, CALL, FACILITY, PROPORTION, RAMP_DOWN, RAMP_UP, REASON, SERVICE, W0, ZERO,
+    A, B, BYTES, CALL, FACILITY, PERIOD, PROPORTION, RAMP_DOWN, RAMP_UP, REASON, SERVICE, W0, ZERO,
 };
-use layout::{Refusal, drawn, facility, head, offer, refuse_if};
+use layout::{Refusal, facility, head, offer, refuse_if, service};
 use std::array;
 use units::{copy_words, nat};
 
@@ -24,8 +23,6 @@ const W10: usize = W0 + 4 * 10;
 
 const W17: usize = W0 + 4 * facility::CAPABILITY;
 
-const PAIR_WORDS: usize = 2 * offer::PAIR_COUNT;
-
 // "Words are signed 32-bit, most significant byte first."
 pub fn word_at(bytes: &[u8], at: usize) -> i32
     requires { at + 4 ≤ length bytes.now }
@@ -35,11 +32,18 @@ pub fn word_at(bytes: &[u8], at: usize) -> i32
 }
 
 // N words from byte `at` on.
-fn words_at<const N: usize>(bytes: &Record, at: usize) -> [i32; N]
-    requires { at + 4 * N ≤ 112 }
+pub fn words_at<const N: usize>(bytes: &[u8], at: usize) -> [i32; N]
+    requires { at + 4 * N ≤ length bytes.now }
     ensures { result ≡ words_at bytes.now at N }
 {
     array::from_fn(|i| word_at(bytes, at + 4 * i))
+}
+
+// "8–11 period word": a slot in call 3, a period P in calls 4, 8 and 9.
+pub fn period_word(bytes: &Record) -> i32
+    ensures { result ≡ period_word bytes.now }
+{
+    word_at(bytes, PERIOD)
 }
 
 // Cell words 1 to 23 that a call carries: proportion, "0 to 65,535", ramps, pairs. The caller lends them: 23 words returned are copied.
@@ -52,7 +56,7 @@ pub fn read_offer(bytes: &Record, words: &mut [i32; offer::WORDS])
     words[offer::RAMP_DOWN] = word_at(bytes, RAMP_DOWN);
     copy_words(
         &mut words[offer::PAIRS..],
-        &words_at::<PAIR_WORDS>(bytes, W0),
+        &words_at::<{ offer::PAIR_WORDS }>(bytes, W0),
     );
 }
 
@@ -109,9 +113,8 @@ fn is_outside(bytes: &Record, facilities: u64, services: u64) -> bool
 }
 
 // Whether a byte of a gap is not zero, asked of all without a branch. A fold takes some ten instructions more for an offer of service 1 to 4.
-#[tactic(auto, using(crate::proofs::StrayBytes::set_more, crate::proofs::StrayBytes::set_end))]
 fn any_set(gap: &[u8]) -> bool
-    ensures { result ≡ any_set gap.now 0 (length gap.now) }
+    ensures { result ≡ list_any (λ byte. not (eqb byte 0)) gap.now }
 {
     let mut any = false;
     for byte in gap {
@@ -128,9 +131,9 @@ fn any_set(gap: &[u8]) -> bool
 fn has_stray_beside_offer(bytes: &Record, service: u8) -> bool
     ensures { result ≡ any_stray (used 3 service) 6 (drop 6 bytes.now) }
 {
-    if service == facility::ENERGY {
+    if service == service::ENERGY {
         any_set(&bytes[ZERO..RAMP_UP]) || any_set(&bytes[A..W0])
-    } else if service < facility::REGULATION {
+    } else if service < service::REGULATION {
         any_set(&bytes[ZERO..PROPORTION]) | (any_set(&bytes[RAMP_UP..W0]) | any_set(&bytes[W10..]))
     } else {
         any_set(&bytes[ZERO..W0]) | any_set(&bytes[W10..])
@@ -158,7 +161,7 @@ fn has_stray(bytes: &Record) -> bool
 }
 
 // 2, 3, 4, for F facilities and S services; else the record.
-#[tactic(auto, using(layout::proofs::Chains::passed_first, layout::proofs::Chains::refused_first, crate::proofs::Refused::drawn_at_most, crate::proofs::Refused::other_length), unfolding(book_rules::specs::Record::record_number))]
+#[tactic(auto, using(layout::proofs::Chains::passed_first, layout::proofs::Chains::refused_first, crate::proofs::Refused::other_length), unfolding(book_rules::specs::Record::record_number))]
 pub fn test_record(bytes: &[u8], facilities: u64, services: u64) -> Result<&Record, Refusal>
     ensures number { drawn result ≡ record_number bytes.now facilities services }
     ensures most { drawn result ≤ 4 }
@@ -182,17 +185,10 @@ pub fn is_sized(facilities: i32, services: i32) -> bool
 
 // 20 where F or S is wrong, else 2, 3 and 4.
 #[tactic(auto, using(layout::proofs::Chains::passed_first, layout::proofs::Chains::refused_first), unfolding(book_rules::specs::Record::record_test))]
-fn record_tested(bytes: &[u8], facilities: i32, services: i32) -> Result<(), Refusal>
+pub fn test_sized_record(bytes: &[u8], facilities: i32, services: i32) -> Result<(), Refusal>
     ensures { drawn result ≡ record_test bytes.now facilities services }
 {
     refuse_if(!is_sized(facilities, services), Refusal::Opening)?;
     test_record(bytes, nat(facilities), nat(services))?;
     Ok(())
-}
-
-// The number alone, for C.
-pub fn bilzhaan_record_test(bytes: &[u8], facilities: i32, services: i32) -> u32
-    ensures { result ≡ record_test bytes.now facilities services }
-{
-    u32::from(drawn(record_tested(bytes, facilities, services)))
 }

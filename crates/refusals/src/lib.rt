@@ -16,6 +16,9 @@ use kinds::{Kind, Range, is_kind, longest_outage, marks, may_offer};
 use layout::{Minute, Refusal, Service, facility, fields, offer, refuse_if, service, time};
 use units::{any_beyond, is_beyond, nat};
 
+// Thousandths: "W9–W11 outside 0–1,000"
+const MOST_PROPORTION: i32 = 1000;
+
 // ---- 5: the facility's kind
 
 // "facility has kind neither 1 nor 2 in the book", nor 3.
@@ -72,6 +75,7 @@ pub fn outage_window(minute: i32, count: i32) -> [i32; 2]
 }
 
 // "notice: reason not 3–5, or not 0 ≤ A ≤ B ≤ 40,000,000"
+#[tactic(auto, unfolding(offer_rules::specs::Numbers::draw))]
 pub fn check_notice(kind: u8, first: i32, last: i32) -> Result<(), Refusal>
     ensures number { drawn result ≡ notice_number kind first last }
     ensures bound { drawn result ≤ 7 }
@@ -103,7 +107,6 @@ pub fn is_kind_refused(held: &[i32; facility::CAPABILITY], kind: i32) -> bool
 }
 
 // "W1–W6 outside 0–99,999; W7, W8 outside 0–9,999; W9–W11 outside 0–1,000"
-
 fn is_maximum_refused(sent: &[i32; facility::CAPABILITY]) -> bool
     ensures { result ≡ maxima_refused sent.now }
 {
@@ -120,7 +123,7 @@ fn is_maximum_refused(sent: &[i32; facility::CAPABILITY]) -> bool
     let proportion = any_beyond(
         &sent[facility::MAX_PROPORTION..facility::REGISTERED],
         0,
-        1000,
+        MOST_PROPORTION,
     );
     (maximum | ramp) | proportion
 }
@@ -133,17 +136,14 @@ fn is_registered(capability: &[i32; facility::CAPABILITY], service: Service) -> 
 }
 
 // A mark that is set and that the kind may not have.
-fn is_mark_astray(
-    sent: &[i32; facility::CAPABILITY],
-    allowed: Range,
-    service: Service,
-) -> bool
+fn is_mark_astray(sent: &[i32; facility::CAPABILITY], allowed: Range, service: Service) -> bool
     ensures { result ≡ (is_registered sent.now service.number && not (is_in (range_of allowed) service.number)) }
 {
     is_registered(sent, service) & !allowed.contains(service.number)
 }
 
 // "load with mark 0 or 4 set"; of a link "mark 0 only".
+// `ENERGY..=REGULATION` was tried: std has no law of the items that such a range gives, and the proof didn't close.
 fn any_mark_astray(sent: &[i32; facility::CAPABILITY]) -> bool
     ensures { result ≡ any_mark_astray sent.now 5 }
 {
@@ -157,7 +157,6 @@ fn any_mark_astray(sent: &[i32; facility::CAPABILITY]) -> bool
 }
 
 // "a mark not 0 or 1; .."
-
 fn is_mark_refused(sent: &[i32; facility::CAPABILITY]) -> bool
     ensures { result ≡ marks_refused sent.now }
 {

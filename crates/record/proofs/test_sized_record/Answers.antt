@@ -3,7 +3,7 @@ use Rattle.std.proofs.Common.{arith, w32}
 use mir.Facts.{to_z-of_z}
 use Rattle.book_rules.specs.Record.{record_test}
 use Rattle.layout.proofs.Chains.{refused_first}
-use Rattle.record.proofs.record_tested.Goals as goal
+use Rattle.record.proofs.test_sized_record.Goals as goal
 
 pub returns-in_err-refuse_if : goal.returns-in_err-refuse_if
 unfolding record_test
