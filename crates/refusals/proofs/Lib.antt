@@ -1,3 +1,2 @@
 -- Laws of words that are lent, and of an outage that draws no number.
-pub mod Lent
 pub mod OutagePassed

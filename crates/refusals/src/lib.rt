@@ -1,5 +1,5 @@
 // Document 01, "Who draws which number": 5 to 9, from values that the book hands over.
-// A facility's capability is 17 words W0 to W16. A service stays a number of at most 4, as its mark is at W12 + service.
+// A facility's capability is 17 words W0 to W16. A bound stands beside a number's equation for callers that don't unfold the rule.
 // Narrowing stays `as`, proved to lose nothing: a `try_from` would be tested as it runs.
 #![tactic(auto)]
 
@@ -13,8 +13,11 @@ ghost use Rattle.book_rules.specs.Refusals.{facility_number, clock_number, outag
 ghost use Rattle.book_rules.specs.Book.{outage_words};
 
 use kinds::{Kind, Range, is_kind, longest_outage, marks, may_offer};
-use layout::{Minute, Refusal, facility, fields, offer, refuse_if, time};
+use layout::{Minute, Refusal, Service, facility, fields, offer, refuse_if, service, time};
 use units::{any_beyond, is_beyond, nat};
+
+// Thousandths: "W9–W11 outside 0–1,000"
+const MOST_PROPORTION: i32 = 1000;
 
 // ---- 5: the facility's kind
 
@@ -24,14 +27,13 @@ pub fn check_kind(capability: &[i32; facility::CAPABILITY]) -> Result<(), Refusa
     ensures number { drawn result ≡ facility_number capability.now }
     ensures bound { drawn result ≤ 5 }
 {
-    let _kind = Kind::try_from(capability[facility::KIND])?;
-    Ok(())
+    Kind::try_from(capability[facility::KIND]).map(|_| ())
 }
 
 // ---- 6: the clock
 
 // "A below now or above 1,000,000,000"
-#[tactic(auto, using(layout::proofs::Chains::draw_most), unfolding(book_rules::specs::Refusals::clock_number))]
+#[tactic(auto, unfolding(book_rules::specs::Refusals::clock_number))]
 pub fn check_clock(clock: Minute, minute: i32) -> Result<(), Refusal>
     ensures number { drawn result ≡ clock_number clock.number minute }
     ensures bound { drawn result ≤ 6 }
@@ -46,7 +48,6 @@ pub fn check_clock(clock: Minute, minute: i32) -> Result<(), Refusal>
 // ---- 7: outages, notices and withdrawals
 
 // "outage: not 0 ≤ m ≤ now, or n outside 1–3 (load 1–48)"; a link's always.
-#[tactic(auto, using(layout::proofs::Chains::draw_most))]
 pub fn check_outage(
     clock: Minute,
     capability: &[i32; facility::CAPABILITY],
@@ -74,7 +75,7 @@ pub fn outage_window(minute: i32, count: i32) -> [i32; 2]
 }
 
 // "notice: reason not 3–5, or not 0 ≤ A ≤ B ≤ 40,000,000"
-#[tactic(auto, using(layout::proofs::Chains::draw_most))]
+#[tactic(auto, unfolding(offer_rules::specs::Numbers::draw))]
 pub fn check_notice(kind: u8, first: i32, last: i32) -> Result<(), Refusal>
     ensures number { drawn result ≡ notice_number kind first last }
     ensures bound { drawn result ≤ 7 }
@@ -86,7 +87,7 @@ pub fn check_notice(kind: u8, first: i32, last: i32) -> Result<(), Refusal>
 }
 
 // "withdrawal: reason not 5"
-#[tactic(auto, using(layout::proofs::Chains::draw_most), unfolding(book_rules::specs::Refusals::withdrawal_number))]
+#[tactic(auto, unfolding(book_rules::specs::Refusals::withdrawal_number))]
 pub fn check_withdrawal(kind: u8) -> Result<(), Refusal>
     ensures number { drawn result ≡ withdrawal_number kind }
     ensures bound { drawn result ≤ 7 }
@@ -112,7 +113,7 @@ fn is_maximum_refused(sent: &[i32; facility::CAPABILITY]) -> bool
     let maximum = any_beyond(
         &sent[facility::MAX_GENERATION..facility::MAX_RAMP_UP],
         0,
-        99999,
+        offer::MOST_QUANTITY,
     );
     let ramp = any_beyond(
         &sent[facility::MAX_RAMP_UP..facility::MAX_PROPORTION],
@@ -122,33 +123,37 @@ fn is_maximum_refused(sent: &[i32; facility::CAPABILITY]) -> bool
     let proportion = any_beyond(
         &sent[facility::MAX_PROPORTION..facility::REGISTERED],
         0,
-        1000,
+        MOST_PROPORTION,
     );
     (maximum | ramp) | proportion
 }
 
 // The mark for a service is 1.
-fn is_registered(capability: &[i32; facility::CAPABILITY], service: u8) -> bool
-    requires { service ≤ 4 }
-    ensures { result ≡ is_registered capability.now service }
+fn is_registered(capability: &[i32; facility::CAPABILITY], service: Service) -> bool
+    ensures { result ≡ is_registered capability.now service.number }
 {
-    capability[facility::REGISTERED + usize::from(service)] == 1
+    capability[facility::REGISTERED + service.place()] == 1
 }
 
 // A mark that is set and that the kind may not have.
-fn is_mark_astray(sent: &[i32; facility::CAPABILITY], allowed: Range, service: u8) -> bool
-    requires { service ≤ 4 }
-    ensures { result ≡ (is_registered sent.now service && not (is_in (range_of allowed) service)) }
+fn is_mark_astray(sent: &[i32; facility::CAPABILITY], allowed: Range, service: Service) -> bool
+    ensures { result ≡ (is_registered sent.now service.number && not (is_in (range_of allowed) service.number)) }
 {
-    is_registered(sent, service) & !allowed.contains(service)
+    is_registered(sent, service) & !allowed.contains(service.number)
 }
 
 // "load with mark 0 or 4 set"; of a link "mark 0 only".
+// `ENERGY..=REGULATION` was tried: std has no law of the items that such a range gives, and the proof didn't close.
 fn any_mark_astray(sent: &[i32; facility::CAPABILITY]) -> bool
     ensures { result ≡ any_mark_astray sent.now 5 }
 {
     let allowed = marks(sent[facility::KIND]);
-    (0..5).fold(false, |any, s| any | is_mark_astray(sent, allowed, s))
+    (service::ENERGY..service::REGULATION + 1).fold(
+        false,
+        |any, number|
+            requires { number ≤ 4 }
+        { any | is_mark_astray(sent, allowed, Service { number }) },
+    )
 }
 
 // "a mark not 0 or 1; .."
@@ -158,7 +163,7 @@ fn is_mark_refused(sent: &[i32; facility::CAPABILITY]) -> bool
     any_beyond(&sent[facility::REGISTERED..facility::CAPABILITY], 0, 1) | any_mark_astray(sent)
 }
 
-#[tactic(auto, using(layout::proofs::Chains::draw_most), unfolding(book_rules::specs::Refusals::capability_number))]
+#[tactic(auto, unfolding(book_rules::specs::Refusals::capability_number))]
 pub fn check_capability(
     held: &[i32; facility::CAPABILITY],
     sent: &[i32; facility::CAPABILITY],
@@ -175,16 +180,15 @@ pub fn check_capability(
 // ---- 9: registration
 
 // "mark for the service not 1", or a service that the kind may not offer, whatever its marks.
-#[tactic(auto, using(layout::proofs::Chains::draw_most), unfolding(book_rules::specs::Refusals::registration_number))]
+#[tactic(auto, unfolding(book_rules::specs::Refusals::registration_number))]
 pub fn check_registration(
     capability: &[i32; facility::CAPABILITY],
-    service: u8,
+    service: Service,
 ) -> Result<(), Refusal>
-    requires { service ≤ 4 }
-    ensures number { drawn result ≡ registration_number capability.now service }
+    ensures number { drawn result ≡ registration_number capability.now service.number }
     ensures bound { drawn result ≤ 9 }
 {
     let registered = is_registered(capability, service);
-    let offered = may_offer(capability[facility::KIND], service);
+    let offered = may_offer(capability[facility::KIND], service.number);
     refuse_if(!registered | !offered, Refusal::NotRegistered)
 }
