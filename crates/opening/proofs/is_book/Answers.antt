@@ -18,4 +18,4 @@ returns c =
     let mark = eqb_bits (word w 0) book_mark (search rules) (sfits_lit tt) in
     let version = eqb_bits (word w 1) book_version (search rules) (sfits_lit tt) in
     let long : leb 64 (length w) ≡ true = le-leb 64 (length w) (omega arith) in
-    rw (mark, version, c.is_some.ensures, c.that_fit-sizes.ensures.fits, F, S, c.is_beyond.ensures, clock, long) (simp and_assoc)
+    rw (mark, version, c.is_some.ensures, c.sizes_that_fit-sizes.ensures.fits, F, S, c.is_beyond.ensures, clock, long) (simp and_assoc)

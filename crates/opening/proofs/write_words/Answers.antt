@@ -14,9 +14,9 @@ returns c =
     let S = c.args.sizes.services in
     let limits = c.args.limits in
     let size = c.book_size-end in
-    let cells = 64 + 32 * F in
+    let cells = c.first_cell-cells.result in
     let end = size.result in
-    let n : end ≡ cells + 16128 * (F * S) = unfold book_size in size.ensures.value in
+    let n : end ≡ 64 + 32 * F + 16128 * (F * S) = unfold book_size in size.ensures.value in
     let z : c.fill.new.self ≡ zeros (16128 * (F * S)) = search rules in
     rw (c.write_head.ensures, c.write_facilities.ensures, z, ← size.ensures.value)
     (lent_three d (opening_head F S limits) (empty_facilities F) (zeros (16128 * (F * S))) 64 cells end (length_head F S limits (search rules))

@@ -3,6 +3,6 @@ use Rattle.book_rules.specs.Words.{cell}
 use Rattle.units.proofs.Copying.{stored_then_lent}
 use Rattle.cells.proofs.stores.write_cell.Goals as goal
 
-pub returns-clause-written : goal.returns-clause-written
+pub returns : goal.returns
 unfolding cell
-returns-clause-written c = stored_then_lent c.args.words.now (_ ∷ (_ ∷ (_ ∷ (_ ∷ [])))) _ 4 20 refl (search rules) ∙ search rules
+returns c = stored_then_lent c.args.words.now (_ ∷ (_ ∷ (_ ∷ (_ ∷ [])))) _ 4 20 refl (search rules) ∙ search rules

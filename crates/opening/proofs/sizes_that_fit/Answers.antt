@@ -4,7 +4,7 @@ use mir.Facts.{to_z-of_z}
 use Rattle.offer_rules.specs.Numbers.{to_nat}
 use Rattle.book_rules.specs.Record.{sizes_ok}
 use Rattle.opening.proofs.UsableBooks.{sized}
-use Rattle.opening.proofs.Sizes.that_fit.Goals as goal
+use Rattle.opening.proofs.sizes_that_fit.Goals as goal
 
 pub invariant_of-sizes : goal.invariant_of-sizes
 invariant_of-sizes c =
