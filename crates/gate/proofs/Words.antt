@@ -1,10 +1,6 @@
 -- Words, two by two, as pairs.
-use Rattle.std.proofs.Common.{◌≡◌, ℕ, ◌+◌, ◌≤◌, ◌<◌, List, [], refl, eq-eqb, add-one, length, drop, get_or, drop-cons, drop_of_length-le}
-use Rattle.std.specs.Prelude.{ℤ, pos, negsuc, true}
-use Rattle.std.specs.Ordering.{int_eq}
-use Rattle.std.proofs.lemmas.Bool.Decides.{same_from_decides, Decides-int_eq}
-use Rattle.offer_rules.specs.Numbers.{eq_z}
-use Rattle.offer_rules.proofs.Ranges.{same_word}
+use Rattle.std.proofs.Common.{◌≡◌, ℕ, ◌+◌, ◌≤◌, ◌<◌, List, [], refl, add-one, length, drop, get_or, drop-cons, drop_of_length-le}
+use Rattle.std.specs.Prelude.{ℤ}
 use Rattle.offer_rules.specs.Gate.{tenths_of, total_tenths}
 use Rattle.units.specs.Typed.{pair_of, typed}
 use Rattle.units.specs.Typed.{pairs_of}
@@ -17,10 +13,3 @@ total_from l i h = rw (add-one, drop-cons l i [] h) refl
 pub total_at_end : (l : List (List ℤ)) (i : ℕ) → length l ≤ i → total_tenths (pairs_of (drop i l)) ≡ 0
 unfolding total_tenths
 total_at_end l i h = rw (drop_of_length-le l h) refl
-
-pub equal_words : (x y : ℤ) → int_eq x y ≡ eq_z x y
-equal_words x y = same_from_decides (int_eq x y) (eq_z x y) (Decides-int_eq x y) (same_word x y, λ e. rw (e) (same y))
-  where
-    same : (z : ℤ) → eq_z z z ≡ true
-    same (pos n) = eq-eqb n n refl
-    same (negsuc n) = eq-eqb n n refl

@@ -69,9 +69,9 @@ struct Walk<'a> {
 }
 
 // How many pairs stand before the first blank.
-#[tactic(auto, using(crate::proofs::Blanks::filled_until))]
 fn filled_count(pairs: &[[i32; 2]]) -> usize
-    ensures { (result ≡ length (filled_part (pairs_of pairs.now))) × (result ≤ length pairs.now) }
+    ensures filled { result ≡ length (filled_part (pairs_of pairs.now)) }
+    ensures most { result ≤ length pairs.now }
 {
     pairs
         .iter()
@@ -82,7 +82,8 @@ fn filled_count(pairs: &[[i32; 2]]) -> usize
 // How many pairs there are up to the last that isn't blank.
 #[tactic(auto, using(crate::proofs::Blanks::blank_from))]
 fn count_to_last(pairs: &[[i32; 2]]) -> usize
-    ensures { (result ≤ length pairs.now) × (all_blank (pairs_of (drop result pairs.now)) ≡ true) }
+    ensures most { result ≤ length pairs.now }
+    ensures rest { all_blank (pairs_of (drop result pairs.now)) ≡ true }
 {
     pairs
         .iter()
@@ -141,7 +142,6 @@ fn tenths_of(pair: Pair) -> u64
 }
 
 // Two pairs differ where both have tenths left, a and b, at two prices: a blank pair's price is never compared.
-#[tactic(auto, using(crate::proofs::Words::equal_words))]
 fn differ(x: Pair, a: u64, y: Pair, b: u64) -> bool
     ensures { result ≡ ((ltb 0 a && ltb 0 b) && not (eq_z x.price.0 y.price.0)) }
 {

@@ -1,7 +1,7 @@
 // A facility's offers for one service.
 // `nat(..) as usize` loses nothing: of u64 and usize there is no From.
 ghost use Rattle.std.specs.Prelude.{◌≡◌, ◌≤◌, ◌<◌, IfOk};
-ghost use Rattle.offer_rules.specs.Numbers.{to_nat, word, ◌then◌};
+ghost use Rattle.offer_rules.specs.Numbers.{to_nat, word, draw, ◌then◌};
 ghost use Rattle.offer_rules.specs.Time.{slot_refused, period_refused, next_period};
 ghost use Rattle.offer_rules.specs.Offer.{pairs_in, pairs, offer_number};
 ghost use Rattle.layout.specs.Refusal.{drawn};
@@ -21,6 +21,19 @@ use gate::{Filing, Offer};
 use layout::{Period, Refusal, Service, Slot, fields, offer, refuse_if};
 use offers::{Passed, is_slot_refused};
 use units::nat;
+
+// 10 of a standing offer's slot.
+#[tactic(auto, using(layout::proofs::Chains::draw_most, crate::proofs::Near::in_week))]
+fn check_slot(slot: i32) -> Result<Slot, Refusal>
+    ensures number { drawn result ≡ draw (slot_refused slot) 10 }
+    ensures bound { drawn result ≤ 10 }
+    ensures slot { IfOk result (λ k. k.number ≡ to_nat slot) }
+{
+    refuse_if(is_slot_refused(slot), Refusal::Period)?;
+    Ok(Slot {
+        number: nat(slot) as usize,
+    })
+}
 
 #[derive(Clone, Copy, Debug, PartialEq, Eq)]
 pub struct Series<'a> {
@@ -57,17 +70,14 @@ impl<'a> Series<'a> {
     }
 
     // 5, 9 and 10 of a standing offer, which ask for none of its words: its slot, where none is drawn.
-    #[tactic(auto, using(layout::proofs::Chains::passed_first, layout::proofs::Chains::refused_first, crate::proofs::Stages::admission_parts, crate::proofs::Near::in_week))]
+    #[tactic(auto, using(layout::proofs::Chains::passed_first, layout::proofs::Chains::refused_first, crate::proofs::Stages::admission_parts))]
     pub fn admit_standing(&self, slot: i32) -> Result<Slot, Refusal>
         ensures number { drawn result ≡ admission_number (part (facility_place self.now.facility.f) 17 self.now.facility.book.words.now) self.now.service.number (slot_refused slot) }
         ensures bound { drawn result ≤ 10 }
         ensures slot { IfOk result (λ k. k.number ≡ to_nat slot) }
     {
         self.check_registered()?;
-        refuse_if(is_slot_refused(slot), Refusal::Period)?;
-        Ok(Slot {
-            number: nat(slot) as usize,
-        })
+        check_slot(slot)
     }
 
     // 5, 9 and 10 of a variation: its period.
