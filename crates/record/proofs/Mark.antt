@@ -1,7 +1,7 @@
 -- "Bytes 0–2 SOB; 3–4 version 1": the first five bytes, compared at once.
-use Rattle.std.proofs.Common.{◌≡◌, refl, sym, ℕ, List, [], ◌∷◌, length, Bool, true, false, ◌&&◌, eqb, arith}
+use Rattle.std.proofs.Common.{◌≡◌, ℕ, List, [], ◌∷◌, length, ◌&&◌, eqb, arith}
 use mathlib.Core.Bool.{and_assoc, and-true}
-use borrow.Author.Tests.{eq-eqb, ne_eqb, eqb-true, eqb-false}
+use borrow.Author.Tests.{eq-eqb}
 use Rattle.std.specs.List.{starts_with}
 use Rattle.units.proofs.Signs.{eqb_sym}
 use Rattle.offer_rules.specs.Numbers.{between}

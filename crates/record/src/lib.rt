@@ -1,18 +1,17 @@
 // A record's bytes: its words, the bytes that its call uses, and refusals 2, 3 and 4 of it.
-// The gateway's C program calls bilzhaan_record_test.
 #![tactic(auto)]
 
-ghost use Rattle.std.specs.Prelude.{◌≡◌, ℕ, ◌+◌, ◌*◌, ◌-◌, ◌≤◌, length, drop, ◌&&◌, ◌||◌, IfOk};
-ghost use Rattle.book_rules.specs.Record.{word_at, words_at, offer_in, capability_in};
+ghost use Rattle.std.specs.Prelude.{◌≡◌, ℕ, ◌+◌, ◌*◌, ◌≤◌, length, drop, not, ◌&&◌, ◌||◌, eqb, IfOk};
+ghost use Rattle.std.specs.List.{list_any};
+ghost use Rattle.book_rules.specs.Record.{word_at, words_at, period_word, offer_in, capability_in};
 ghost use Rattle.book_rules.specs.Record.{used, is_record, outside, any_stray, has_stray};
 ghost use Rattle.book_rules.specs.Record.{record_number, sizes_ok, record_test};
 ghost use Rattle.layout.specs.Refusal.{drawn};
-ghost use Rattle.record.specs.Gaps.{any_set};
 
 use layout::fields::{
-    A, B, BYTES, CALL, FACILITY, PROPORTION, RAMP_DOWN, RAMP_UP, REASON, SERVICE, W0, ZERO,
+    A, B, BYTES, CALL, FACILITY, PERIOD, PROPORTION, RAMP_DOWN, RAMP_UP, REASON, SERVICE, W0, ZERO,
 };
-use layout::{Refusal, drawn, facility, head, offer, refuse_if};
+use layout::{Refusal, facility, head, offer, refuse_if, service};
 use std::array;
 use units::{copy_words, nat};
 
@@ -24,9 +23,8 @@ const W10: usize = W0 + 4 * 10;
 
 const W17: usize = W0 + 4 * facility::CAPABILITY;
 
-const PAIR_WORDS: usize = 2 * offer::PAIR_COUNT;
-
 // "Words are signed 32-bit, most significant byte first."
+#[tactic(auto, using(crate::proofs::TwosComplement::four_signed, units::proofs::Counts::word_back), unfolding(book_rules::specs::Record::word_at))]
 pub fn word_at(bytes: &[u8], at: usize) -> i32
     requires { at + 4 ≤ length bytes.now }
     ensures { result ≡ word_at bytes.now at }
@@ -35,11 +33,18 @@ pub fn word_at(bytes: &[u8], at: usize) -> i32
 }
 
 // N words from byte `at` on.
-fn words_at<const N: usize>(bytes: &Record, at: usize) -> [i32; N]
-    requires { at + 4 * N ≤ 112 }
+pub fn words_at<const N: usize>(bytes: &[u8], at: usize) -> [i32; N]
+    requires { at + 4 * N ≤ length bytes.now }
     ensures { result ≡ words_at bytes.now at N }
 {
     array::from_fn(|i| word_at(bytes, at + 4 * i))
+}
+
+// "8–11 period word": a slot in call 3, a period P in calls 4, 8 and 9.
+pub fn period_word(bytes: &Record) -> i32
+    ensures { result ≡ period_word bytes.now }
+{
+    word_at(bytes, PERIOD)
 }
 
 // Cell words 1 to 23 that a call carries: proportion, "0 to 65,535", ramps, pairs. The caller lends them: 23 words returned are copied.
@@ -50,10 +55,8 @@ pub fn read_offer(bytes: &Record, words: &mut [i32; offer::WORDS])
     words[offer::PROPORTION] = i32::from(u16::from_be_bytes(proportion));
     words[offer::RAMP_UP] = word_at(bytes, RAMP_UP);
     words[offer::RAMP_DOWN] = word_at(bytes, RAMP_DOWN);
-    copy_words(
-        &mut words[offer::PAIRS..],
-        &words_at::<PAIR_WORDS>(bytes, W0),
-    );
+    let pairs: [i32; offer::PAIR_WORDS] = words_at(bytes, W0);
+    copy_words(&mut words[offer::PAIRS..], &pairs);
 }
 
 // W0 to W16.
@@ -71,27 +74,46 @@ fn is_record(bytes: &Record) -> bool
     bytes.starts_with(b"SOB\0\x01") && (1..=9).contains(&bytes[CALL])
 }
 
-// The calls that use byte 6, the facility, and byte 7, the service. Of each it is told whether it lies outside: the caller has asked, so that most records need no match.
+// The calls that use byte 6, the facility.
 #[tactic(auto, using(crate::proofs::UnknownCalls::unknown_uses_none), unfolding(book_rules::specs::Record::used))]
-fn is_outside_where_used(call: u8, no_facility: bool, no_service: bool) -> bool
-    ensures { (s : ℕ) → result ≡ ((used call s 6 && no_facility) || (used call s 7 && no_service)) }
+fn uses_facility(call: u8) -> bool
+    ensures { (s : ℕ) → result ≡ used call s 6 }
 {
     match call {
         1 => false,
-        2 => no_facility,
-        3 => no_facility | no_service,
-        4 => no_facility | no_service,
-        5 => no_facility,
+        2 => true,
+        3 => true,
+        4 => true,
+        5 => true,
         6 => false,
         7 => false,
-        8 => no_facility | no_service,
-        9 => no_service,
+        8 => true,
+        9 => false,
         0 | 10..=255 => false,
     }
 }
 
-// 3 "facility ≥ F or service ≥ S, where used". Most records have both below, and then no call is told from another.
-// Two tests: joined by `||` they take two instructions more.
+// The calls that use byte 7, the service.
+#[tactic(auto, using(crate::proofs::UnknownCalls::unknown_uses_none), unfolding(book_rules::specs::Record::used))]
+fn uses_service(call: u8) -> bool
+    ensures { (s : ℕ) → result ≡ used call s 7 }
+{
+    match call {
+        1 => false,
+        2 => false,
+        3 => true,
+        4 => true,
+        5 => false,
+        6 => false,
+        7 => false,
+        8 => true,
+        9 => true,
+        0 | 10..=255 => false,
+    }
+}
+
+// 3 "facility ≥ F or service ≥ S, where used". Most records have both below, and then no call is told from another:
+// a match ahead of the tests was measured, and takes an offer two or three instructions more.
 #[tactic(auto, unfolding(book_rules::specs::Record::outside))]
 fn is_outside(bytes: &Record, facilities: u64, services: u64) -> bool
     ensures { result ≡ outside bytes.now facilities services }
@@ -99,19 +121,12 @@ fn is_outside(bytes: &Record, facilities: u64, services: u64) -> bool
     let call = bytes[CALL];
     let no_facility = facilities <= u64::from(bytes[FACILITY]);
     let no_service = services <= u64::from(bytes[SERVICE]);
-    if no_facility {
-        return is_outside_where_used(call, no_facility, no_service);
-    }
-    if no_service {
-        return is_outside_where_used(call, no_facility, no_service);
-    }
-    false
+    (no_facility && uses_facility(call)) || (no_service && uses_service(call))
 }
 
 // Whether a byte of a gap is not zero, asked of all without a branch. A fold takes some ten instructions more for an offer of service 1 to 4.
-#[tactic(auto, using(crate::proofs::StrayBytes::set_more, crate::proofs::StrayBytes::set_end))]
 fn any_set(gap: &[u8]) -> bool
-    ensures { result ≡ any_set gap.now 0 (length gap.now) }
+    ensures { result ≡ list_any (λ byte. not (eqb byte 0)) gap.now }
 {
     let mut any = false;
     for byte in gap {
@@ -128,9 +143,9 @@ fn any_set(gap: &[u8]) -> bool
 fn has_stray_beside_offer(bytes: &Record, service: u8) -> bool
     ensures { result ≡ any_stray (used 3 service) 6 (drop 6 bytes.now) }
 {
-    if service == facility::ENERGY {
+    if service == service::ENERGY {
         any_set(&bytes[ZERO..RAMP_UP]) || any_set(&bytes[A..W0])
-    } else if service < facility::REGULATION {
+    } else if service < service::REGULATION {
         any_set(&bytes[ZERO..PROPORTION]) | (any_set(&bytes[RAMP_UP..W0]) | any_set(&bytes[W10..]))
     } else {
         any_set(&bytes[ZERO..W0]) | any_set(&bytes[W10..])
@@ -158,7 +173,7 @@ fn has_stray(bytes: &Record) -> bool
 }
 
 // 2, 3, 4, for F facilities and S services; else the record.
-#[tactic(auto, using(layout::proofs::Chains::passed_first, layout::proofs::Chains::refused_first, crate::proofs::Refused::drawn_at_most, crate::proofs::Refused::other_length), unfolding(book_rules::specs::Record::record_number))]
+#[tactic(auto, using(layout::proofs::Chains::passed_first, layout::proofs::Chains::refused_first, crate::proofs::Refused::other_length), unfolding(book_rules::specs::Record::record_number))]
 pub fn test_record(bytes: &[u8], facilities: u64, services: u64) -> Result<&Record, Refusal>
     ensures number { drawn result ≡ record_number bytes.now facilities services }
     ensures most { drawn result ≤ 4 }
@@ -180,19 +195,12 @@ pub fn is_sized(facilities: i32, services: i32) -> bool
         & ((services == head::ONE_SERVICE) | (services == head::ALL_SERVICES))
 }
 
-// 20 where F or S is wrong, else 2, 3 and 4.
-#[tactic(auto, using(layout::proofs::Chains::passed_first, layout::proofs::Chains::refused_first), unfolding(book_rules::specs::Record::record_test))]
-fn record_tested(bytes: &[u8], facilities: i32, services: i32) -> Result<(), Refusal>
+// 20 where F or S is wrong, else 2, 3 and 4: what the gateway's C program asks.
+#[tactic(auto, using(layout::proofs::Chains::passed_first, layout::proofs::Chains::refused_first, units::proofs::Counts::word_back), unfolding(book_rules::specs::Record::record_test))]
+pub fn test_sized_record(bytes: &[u8], facilities: i32, services: i32) -> Result<(), Refusal>
     ensures { drawn result ≡ record_test bytes.now facilities services }
 {
     refuse_if(!is_sized(facilities, services), Refusal::Opening)?;
     test_record(bytes, nat(facilities), nat(services))?;
     Ok(())
-}
-
-// The number alone, for C.
-pub fn bilzhaan_record_test(bytes: &[u8], facilities: i32, services: i32) -> u32
-    ensures { result ≡ record_test bytes.now facilities services }
-{
-    u32::from(drawn(record_tested(bytes, facilities, services)))
 }

@@ -1,7 +1,7 @@
-use Rattle.std.proofs.Common.{◌≡◌, ◌-◌, ◌||◌, length}
-use Rattle.record.specs.Gaps.{any_set}
+use Rattle.std.proofs.Common.{◌≡◌, not, eqb, take}
+use Rattle.std.specs.List.{list_any}
 use Rattle.record.proofs.any_set.Given as goal
 
--- what is seen, or set from this byte on, stays the whole gap's
+-- as far as the loop has come
 abbrev pub invariant-loop-byte : goal.invariant-loop-byte
-invariant-loop-byte l = (l.any || any_set l.gap l.byte-index (length l.gap - l.byte-index)) ≡ any_set l.gap 0 (length l.gap)
+invariant-loop-byte l = l.any ≡ list_any (λ byte. not (eqb byte 0)) (take l.byte-index l.gap)

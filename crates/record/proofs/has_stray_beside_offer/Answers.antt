@@ -3,7 +3,7 @@
 use Rattle.std.proofs.Common.{◌≡◌, refl, sym, ap, ◌∙◌, Bool, ◌||◌, List, [], ◌∷◌, ℕ, arith, length, drop}
 use borrow.Author.Tests.{ne_eqb, lt-ltb, le-ltb}
 use Rattle.book_rules.specs.Record.{any_stray, used_by_offer, used}
-use Rattle.record.specs.Gaps.{any_set}
+use Rattle.record.proofs.StrayBytes.{any_set}
 use Rattle.record.proofs.StrayBytes.{Gap, gap, as_lent, set_in_gaps, set_or, gap_bytes, unused_bytes, stray_in_gaps}
 use Rattle.record.proofs.has_stray_beside_offer.Goals as goal
 
