@@ -20,6 +20,7 @@ const LOWEST_LIMIT: i32 = -10000000;
 const HIGHEST_LIMIT: i32 = 10000000;
 
 // "F not 1 to 64, S not 1 or 5, fewer than N words"
+#[tactic(auto, using(units::proofs::Counts::word_back, crate::proofs::UsableBooks::sized))]
 fn sizes_that_fit(words: usize, facilities: i32, services: i32) -> Option<Sizes>
     ensures fits { is_some result ≡ (sizes_ok facilities services && leb (book_size (to_nat facilities) (to_nat services)) words) }
     ensures sizes { IfSome result (λ s. (s.facilities ≡ to_nat facilities) × (s.services ≡ to_nat services)) }
@@ -108,6 +109,7 @@ fn empty_facility() -> [i32; facility::WORDS]
 }
 
 // By places: of chunks that are written std's contracts don't say what their slice ends as.
+#[tactic(auto, unfolding(book_rules::specs::Words::empty_facilities))]
 fn write_facilities(words: &mut [i32], sizes: Sizes)
     requires { length words.old ≡ 32 * sizes.facilities }
     ensures { words.new ≡ empty_facilities sizes.facilities }

@@ -1,10 +1,8 @@
 -- A list of a record's words, made one by one from the first.
-use Rattle.std.proofs.Common.{◌≡◌, ap, ◌∙◌, subst, ℕ, zero, suc, ◌+◌, ◌*◌, List, [], ◌∷◌, length, drop, add-one, arith}
+use Rattle.std.proofs.Common.{◌≡◌, ◌∙◌, subst, ℕ, zero, suc, ◌+◌, ◌*◌, List, length, drop, add-one, arith}
 use lib.IntN.{ℤ, pos}
-use lib.ListN.{set, drop_of_length-le}
+use lib.ListN.{drop_of_length-le}
 use lib.Seq.{drop-cons}
-use mathlib.Core.List.{append-nil}
-use borrow.Rule.Slice.PartMut.{put_mid}
 use Rattle.std.specs.Fn.{Mut, Called}
 use Rattle.std.specs.Array.{IsFromFnResultFrom}
 use Rattle.book_rules.specs.Record.{word_at, words_at}
@@ -25,10 +23,3 @@ module _ {F : Type 0} (g : Mut F (ℕ × Unit {0}) ℤ) (f : F) (b : List ℕ) (
   made ys n e h =
       let first : at + 4 * 0 ≡ at = omega arith in
       rw first at (made_from ys 0 n (omega arith) h)
-
--- three words stored, and x copied over the others
-pub three_then_lent : (d x : List ℤ) (a b e : ℤ) → length d ≡ 23 → put_mid 3 20 (set (set (set d 0 a) 1 b) 2 e) x ≡ a ∷ (b ∷ (e ∷ x))
-three_then_lent [] x a b e h = absurd (omega arith)
-three_then_lent (_ ∷ []) x a b e h = absurd (omega arith)
-three_then_lent (_ ∷ (_ ∷ [])) x a b e h = absurd (omega arith)
-three_then_lent (_ ∷ (_ ∷ (_ ∷ r))) x a b e h = ap (λ (l : List ℤ). a ∷ (b ∷ (e ∷ l))) (rw (drop_of_length-le r {i = 20} (omega arith)) (append-nil x))

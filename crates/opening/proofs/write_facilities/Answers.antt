@@ -1,14 +1,10 @@
-use Rattle.std.proofs.Common.{◌≡◌, ◌*◌, ◌+◌, arith, rules}
+use Rattle.std.proofs.Common.{◌≡◌, ◌*◌, ◌+◌, arith}
 use native.Mathlib.Numerals.{add-one}
 use Rattle.book_rules.specs.Words.{empty_facility, empty_facilities}
 use Rattle.book_rules.proofs.Opening.{length_facilities}
 use Rattle.opening.proofs.Filling.{length_facility, facilities_snoc}
 use Rattle.opening.proofs.LentParts.{lent_next}
 use Rattle.opening.proofs.write_facilities.Goals as goal
-
-pub loop-f-init : goal.loop-f-init
-unfolding empty_facilities
-loop-f-init c = search rules
 
 pub loop-f-preserved : goal.loop-f-preserved
 loop-f-preserved c =
