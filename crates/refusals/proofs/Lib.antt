@@ -1,2 +1,2 @@
--- Laws of words that are lent, and of an outage that draws no number.
+-- A law of an outage that draws no number.
 pub mod OutagePassed
