@@ -19,8 +19,8 @@ use record::{Record, period_word};
 // 5, 10 and 19; the offer in force.
 #[tactic(auto, using(layout::proofs::Chains::passed_first, layout::proofs::Chains::refused_first, crate::proofs::LookUpNumber::force_drawn), unfolding(book_rules::specs::Refusals::look_up_number, book_rules::specs::Book::book_view))]
 fn asked<'a>(series: Series<'a>, period: i32) -> Result<InForce<'a>, Refusal>
-    ensures number { drawn result ≡ look_up_number (book_view series.entry.facility.book.words.now) series.entry.facility.f series.entry.service period }
-    ensures offer { IfOk result (λ x. meaning (Some x) ≡ in_force (book_view series.entry.facility.book.words.now) series.entry.facility.f series.entry.service (to_nat period)) }
+    ensures number { drawn result ≡ look_up_number (book_view series.entry.facility.book.words.now) series.entry.facility.f series.entry.service.number period }
+    ensures offer { IfOk result (λ x. meaning (Some x) ≡ in_force (book_view series.entry.facility.book.words.now) series.entry.facility.f series.entry.service.number (to_nat period)) }
 {
     let book = series.facility.book;
     series.facility.check_kind()?;

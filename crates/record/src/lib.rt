@@ -24,6 +24,7 @@ const W10: usize = W0 + 4 * 10;
 const W17: usize = W0 + 4 * facility::CAPABILITY;
 
 // "Words are signed 32-bit, most significant byte first."
+#[tactic(auto, using(crate::proofs::TwosComplement::four_signed, units::proofs::Counts::word_back), unfolding(book_rules::specs::Record::word_at))]
 pub fn word_at(bytes: &[u8], at: usize) -> i32
     requires { at + 4 ≤ length bytes.now }
     ensures { result ≡ word_at bytes.now at }
@@ -184,7 +185,7 @@ pub fn is_sized(facilities: i32, services: i32) -> bool
 }
 
 // 20 where F or S is wrong, else 2, 3 and 4.
-#[tactic(auto, using(layout::proofs::Chains::passed_first, layout::proofs::Chains::refused_first), unfolding(book_rules::specs::Record::record_test))]
+#[tactic(auto, using(layout::proofs::Chains::passed_first, layout::proofs::Chains::refused_first, units::proofs::Counts::word_back), unfolding(book_rules::specs::Record::record_test))]
 pub fn test_sized_record(bytes: &[u8], facilities: i32, services: i32) -> Result<(), Refusal>
     ensures { drawn result ≡ record_test bytes.now facilities services }
 {

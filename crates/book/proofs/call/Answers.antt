@@ -49,7 +49,7 @@ look_up_call-requires c =
 pub returns-in-8 : goal.returns-in-8
 returns-in-8 c =
     let t = admitted c.args.book.now c.in-Ok.ensures.number c.in-Ok.ensures.same in
-    rw (← c.in-Ok.ensures.same) (c.answered.ensures ∙ c.look_up_call.ensures, unwritten c.args.book.now c.in-Ok.record.now t 8 c.in-8.is (omega arith))
+    rw (← c.in-Ok.ensures.same) (c.from-in-8.ensures ∙ c.look_up_call.ensures, unwritten c.args.book.now c.in-Ok.record.now t 8 c.in-8.is (omega arith))
 
 pub total_call-requires : goal.total_call-requires
 total_call-requires c =
@@ -59,7 +59,7 @@ total_call-requires c =
 pub returns-in-9 : goal.returns-in-9
 returns-in-9 c =
     let t = admitted c.args.book.now c.in-Ok.ensures.number c.in-Ok.ensures.same in
-    rw (← c.in-Ok.ensures.same) (c.answered-in-9.ensures ∙ c.total_call.ensures, unwritten c.args.book.now c.in-Ok.record.now t 9 c.in-9.is (omega arith))
+    rw (← c.in-Ok.ensures.same) (c.from-in-9.ensures ∙ c.total_call.ensures, unwritten c.args.book.now c.in-Ok.record.now t 9 c.in-9.is (omega arith))
 
 -- Refusal 2 has turned down every other call.
 is_one_to_nine : (b : List ℕ) → Which b → (1 ≤ call_of b) × (call_of b ≤ 9)

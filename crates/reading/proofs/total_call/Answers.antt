@@ -5,11 +5,11 @@ use Rattle.reading.proofs.total_call.Goals as goal
 
 pub returns : goal.returns
 returns c =
-    let period = handed_on c.word_at-period.type_inv c.word_at-period.ensures in
-    total_answered c.args.book.now c.args.bytes.now c.requires.0 c.requires.1 period _ c.in_ok-check_period.ensures.number c.cells.ensures.0 c.from-service.ensures c.nat.ensures.0 c.total.ensures
+    let period = handed_on c.period_word.type_inv c.period_word.ensures in
+    total_answered c.args.book.now c.args.bytes.now c.requires.0 c.requires.1 period _ c.in_ok-period.ensures.number c.cells.ensures.0 c.from-service.ensures c.in_ok-period.ensures.period c.total.ensures
 
-pub returns-in_err-check_period : goal.returns-in_err-check_period
-returns-in_err-check_period c =
-    let period = handed_on c.word_at-period.type_inv c.word_at-period.ensures in
+pub returns-in_err-period : goal.returns-in_err-period
+returns-in_err-period c =
+    let period = handed_on c.period_word.type_inv c.period_word.ensures in
     let p = err_from_is_err_and c.from_residual.result c.from_residual.ensures.1 in
-    rw (p.1, p.2) (total_refused c.args.book.now c.args.bytes.now c.requires.0 c.requires.1 period c.in_err-check_period.field-0.0 c.in_err-check_period.ensures.number)
+    rw (p.1, p.2) (total_refused c.args.book.now c.args.bytes.now c.requires.0 c.requires.1 period c.in_err-period.field-0.0 c.in_err-period.ensures.number)

@@ -4,4 +4,4 @@ use Rattle.writing.proofs.file_offer.Goals as goal
 
 pub returns : goal.returns
 unfolding write_cell
-returns c = c.store_offer.ensures ∙ rw (c.facilities-facilities.ensures, c.services-services.ensures)
+returns c = c.store_offer.ensures ∙ rw (c.sizes-sizes.ensures.0, c.sizes-sizes.ensures.1)

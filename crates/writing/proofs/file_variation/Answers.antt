@@ -15,15 +15,15 @@ pub returns-then-is_all_blank : goal.returns-then-is_all_blank
 returns-then-is_all_blank c =
     let a = c.args in
     let w = a.book.now in
-    let filed = λ (l : List ℤ). write_cell w a.f a.s variation_half (slot_of a.period) l in
-    rw c.of-slot.ensures at c.file_offer.ensures ∙ ap filed (empty_cell (variation_stamp a.period) (now_in w) a.filed.offer.now (sym c.is_all_blank.ensures ∙ c.if-is_all_blank.true))
+    let filed = λ (l : List ℤ). write_cell w a.f a.s variation_half (slot_of a.period.number) l in
+    rw c.slot-slot.ensures at c.file_offer.ensures ∙ ap filed (empty_cell (variation_stamp a.period.number) (now_in w) a.filed.offer.now (sym c.is_all_blank.ensures ∙ c.if-is_all_blank.true))
 
 pub returns : goal.returns
 returns c =
     let a = c.args in
     let w = a.book.now in
     let o = a.filed.offer.now in
-    let stamp = variation_stamp a.period in
-    let filed = λ (l : List ℤ). write_cell w a.f a.s variation_half (slot_of a.period) l in
+    let stamp = variation_stamp a.period.number in
+    let filed = λ (l : List ℤ). write_cell w a.f a.s variation_half (slot_of a.period.number) l in
     let timed = ap (λ (n : ℕ). filed (cell stamp (accepted_at n o))) c.clock.ensures in
-    rw c.of-slot.ensures at c.file_offer-2.ensures ∙ timed ∙ ap filed (stamped_cell stamp (now_in w) o (sym c.is_all_blank.ensures ∙ c.if-is_all_blank.false))
+    rw (c.slot-slot.ensures, c.stamp-stamp.ensures.0) at c.file_offer-2.ensures ∙ timed ∙ ap filed (stamped_cell stamp (now_in w) o (sym c.is_all_blank.ensures ∙ c.if-is_all_blank.false))
