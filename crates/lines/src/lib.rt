@@ -1,5 +1,5 @@
 // Answers as lines of text (specs/Text): numbers in decimal, a negative one with a minus sign, parted by one space.
-// What a file or a terminal gets can't be promised. What is promised: the text, and where a writer says which bytes it holds, that these end in the text.
+// Promised is the text, and that it is put after what a writer holds, where the writer says what it holds; a file or a terminal doesn't.
 #![tactic(auto)]
 
 ghost use Rattle.std.specs.Prelude.{◌≡◌, ◌∷◌, ◌++◌, ◌+◌, ◌*◌, ◌≤◌, ◌<◌, length, take, OnOk};
@@ -36,19 +36,20 @@ fn put_next<I: Integer>(out: &mut Printed, n: I)
     put(out, n);
 }
 
-// The number has 10 digits at most, a word 11 bytes and the sum 20, each after a space, and the line feed is one more.
+// An answer's number, words and sum. The number has 10 digits at most, a word 11 bytes and the sum 20, each after a space, and the line feed is one more.
+// `itoa` and no `Display`: tried, and `write!` into an ArrayString doesn't promise to succeed; straight to a writer, each number is a write of its own.
 #[tactic(auto, using(crate::proofs::InTurn::number_first, crate::proofs::InTurn::one_word_more, crate::proofs::InTurn::sum_last))]
-fn numbers_text(out: &mut Printed, number: u32, words: &[i32], sum: i64)
+fn numbers_text(out: &mut Printed, answer: Answer, words: &[i32])
     requires { length words.now ≤ 24 }
-    ensures bytes { out.new.bytes ≡ text number words.now sum }
+    ensures bytes { out.new.bytes ≡ text answer.number words.now answer.sum }
     ensures len { array_string_len out.new ≤ 32 + 12 * length words.now }
 {
     out.clear();
-    put(out, number);
+    put(out, answer.number);
     for word in words {
         put_next(out, *word);
     }
-    put_next(out, sum);
+    put_next(out, answer.sum);
     out.push_str("\n");
 }
 
@@ -58,7 +59,7 @@ pub fn line_text(out: &mut Printed, answer: Answer)
     ensures bytes { out.new.bytes ≡ line (answer_of answer) }
     ensures len { array_string_len out.new ≤ 44 }
 {
-    numbers_text(out, answer.number, &answer.words[..1], answer.sum);
+    numbers_text(out, answer, &answer.words[..1]);
 }
 
 // Number, all 24 words, sum.
@@ -67,7 +68,7 @@ pub fn whole_text(out: &mut Printed, answer: Answer)
     ensures bytes { out.new.bytes ≡ whole (answer_of answer) }
     ensures len { array_string_len out.new ≤ 320 }
 {
-    numbers_text(out, answer.number, &answer.words, answer.sum);
+    numbers_text(out, answer, &answer.words);
 }
 
 // Reads until the bytes are full, the input ends or a read fails, and returns how many were put at their start, which std's `read_exact` doesn't say.

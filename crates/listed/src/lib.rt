@@ -9,21 +9,17 @@ ghost use Rattle.listed.specs.ListAnswered.{numbers_of, flat, ListAnswered};
 
 use book::call;
 use cells::Answer;
-use layout::{Refusal, fields};
+use layout::{Refusal, answer, fields};
 use opening::open;
+use std::array;
 
 // An answer's numbers: its number, 24 words, its sum.
-const NUMBERS: usize = 26;
+const NUMBERS: usize = 1 + answer::WORDS + 1;
 
-fn widened(words: &[i32; 24]) -> [i64; 24]
+fn widened(words: &[i32; answer::WORDS]) -> [i64; answer::WORDS]
     ensures { result ≡ words.now }
 {
-    // A loop by place: of what is written through `iter_mut().zip` nothing is known afterwards, and of what `map` gives no word's range.
-    let mut wide = [0; 24];
-    for (i, word) in words.iter().enumerate() {
-        wide[i] = i64::from(*word);
-    }
-    wide
+    array::from_fn(|i| i64::from(words[i]))
 }
 
 fn numbers(answer: Answer) -> [i64; NUMBERS]
@@ -31,8 +27,8 @@ fn numbers(answer: Answer) -> [i64; NUMBERS]
 {
     let mut numbers = [0; NUMBERS];
     numbers[0] = i64::from(answer.number);
-    numbers[1..25].copy_from_slice(&widened(&answer.words));
-    numbers[25] = answer.sum;
+    numbers[1..NUMBERS - 1].copy_from_slice(&widened(&answer.words));
+    numbers[NUMBERS - 1] = answer.sum;
     numbers
 }
 
@@ -41,6 +37,7 @@ fn answer_records(words: &mut [i32], records: &[[u8; fields::BYTES]], answers: &
     requires { 26 * length records.now ≤ length answers.old }
     ensures { (answers.new ≡ flat (book_answers words.old records.now) ++ drop (26 * length records.now) answers.old) × (words.new ≡ book_run words.old records.now) }
 {
+    // By place: tried through `as_chunks_mut` and `split_first_chunk_mut`, and what `answers` then ends as isn't known.
     for (i, record) in records.iter().enumerate() {
         let at = NUMBERS * i;
         answers[at..at + NUMBERS].copy_from_slice(&numbers(call(words, record)));

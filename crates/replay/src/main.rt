@@ -5,8 +5,7 @@
 use book::call;
 use lines::print_whole;
 use opening::open;
-use record::word_at;
-use std::array;
+use record::{word_at, words_at};
 use std::io::{Read, Write};
 use units::nat;
 
@@ -30,15 +29,14 @@ fn forget(words: &mut [i32]) {
 
 // One list, and none once the run ends. A book that can't be opened answers 1 to every record.
 fn list<R: Read, W: Write>(input: &mut R, output: &mut W, words: &mut [i32]) -> Option<()> {
-    let mut head = [0u8; 36];
-    input.read_exact(&mut head).ok()?;
-    let limits = array::from_fn(|i| word_at(&head, 8 + 4 * i));
+    let mut list_head = [0u8; 36];
+    input.read_exact(&mut list_head).ok()?;
+    let [facilities, services] = words_at::<2>(&list_head, 0);
+    let limits = words_at(&list_head, 8);
+    let count = word_at(&list_head, 32);
     forget(words);
-    let _ = open(words, word_at(&head, 0), word_at(&head, 4), limits);
-    for _ in 0..nat(word_at(&head, 32)) {
-        step(input, output, words)?;
-    }
-    Some(())
+    let _ = open(words, facilities, services, limits);
+    (0..nat(count)).try_for_each(|_| step(input, output, words))
 }
 
 // Room for 19 facilities of one service, or 4 of five. The lists have a number that no run uses up.
