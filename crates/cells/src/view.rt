@@ -64,7 +64,7 @@ impl<'a> Cells<'a> {
     // "word 0 counts facilities with an offer in force, other words zero; sum over them"
     #[tactic(auto, unfolding(book_rules::specs::Force::count_in_force, book_rules::specs::Force::sum_in_force, book_rules::specs::Force::totalled, book_rules::specs::Refusals::total_reply, book_rules::specs::Book::book_view))]
     pub fn total(&self, s: usize, period: Period) -> Answer
-        requires { (s < self.now.sizes.services) }
+        requires { s < self.now.sizes.services }
         ensures { answer_of result ≡ total_reply (book_view self.now.words.now) s period.number }
     {
         let mut t = Tally::default();
