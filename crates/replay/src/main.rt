@@ -29,7 +29,7 @@ fn forget(words: &mut [i32]) {
 
 // One list, and none once the run ends. A book that can't be opened answers 1 to every record.
 fn list<R: Read, W: Write>(input: &mut R, output: &mut W, words: &mut [i32]) -> Option<()> {
-    let mut list_head = [0u8; 36];
+    let mut list_head = [0u8; 4 * 9];
     input.read_exact(&mut list_head).ok()?;
     let [facilities, services] = words_at::<2>(&list_head, 0);
     let limits = words_at(&list_head, 8);
