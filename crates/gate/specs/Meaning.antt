@@ -1,12 +1,13 @@
 -- The declared structs as the rule's records, and words as pairs.
 -- "first and last period" of a window are its two words; a facility's kind is its word.
-use Rattle.std.specs.Prelude.{◌≤◌, List, [], ℤ, length, Option, None, Some}
+use Rattle.std.specs.Prelude.{List, [], ℤ, Option, None, Some}
 use Rattle.offer_rules.specs.Offer.{pairs_in, BlanksLast}
 use Rattle.offer_rules.specs.Gate as rule
 use Rattle.gate.specs.declared.Window.{Window}
 use Rattle.gate.specs.declared.Grounds.{Grounds}
-use Rattle.gate.specs.declared.Offer.{Offer}
-use Rattle.gate.specs.declared.Offer.TheVariants.{Filed, Held}
+use Rattle.gate.specs.declared.lent.Offer.{Offer}
+use Rattle.gate.specs.declared.lent.Offer.TheVariants as offer
+use Rattle.gate.specs.declared.lent.Held.{Held}
 
 abbrev pub window_of : Window → rule.Window
 window_of v = record { first = v.first; last = v.last }
@@ -20,20 +21,18 @@ grounds_of g = record {
   status = window_of g.status;
 }
 
--- An offer's words, and what is asked of them: of a filed one that its blanks come last, of a held one no more than ten pairs.
-abbrev pub words_of : Offer → List ℤ
-words_of (Filed words) = words.now
-words_of (Held words) = words.now
+-- The words of a held offer, if there is one.
+abbrev pub words_held : Option Held → List ℤ
+words_held None = []
+words_held (Some held) = held.words.now
 
-abbrev pub IsLent : Offer → Type 0
-IsLent (Filed words) = BlanksLast (pairs_in words.now)
-IsLent (Held words) = length words.now ≤ 20
+-- The words of an offer that will stand, if one will, and what is asked of it: of a filed one that its blanks come last.
+abbrev pub words_of : Option Offer → List ℤ
+words_of None = []
+words_of (Some (offer.Filed words)) = words.now
+words_of (Some (offer.Held held)) = held.words.now
 
--- The same of no offer, which has no words and of which nothing is asked.
-abbrev pub words_in : Option Offer → List ℤ
-words_in None = []
-words_in (Some o) = words_of o
-
-abbrev pub AreLent : Option Offer → Type 0
-AreLent None = Unit {0}
-AreLent (Some o) = IsLent o
+abbrev pub IsLent : Option Offer → Type 0
+IsLent None = Unit {0}
+IsLent (Some (offer.Filed words)) = BlanksLast (pairs_in words.now)
+IsLent (Some (offer.Held held)) = Unit {0}

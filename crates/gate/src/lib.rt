@@ -8,10 +8,13 @@ ghost use Rattle.offer_rules.specs.Offer.{pairs_in, all_blank, filled_part, Blan
 ghost use Rattle.offer_rules.specs.Gate.{tenths_of, total_tenths, same_prices, covers, is_open, admits_service, period_covered, total_moved, is_excepted};
 ghost use Rattle.units.specs.Typed.{pair_of, pairs_of};
 ghost use Rattle.gate.specs.Differing.{first_differing, tenth_or_none};
-ghost use Rattle.gate.specs.Meaning.{window_of, grounds_of, words_in, AreLent};
+ghost use Rattle.gate.specs.Meaning.{window_of, grounds_of, words_held, words_of, IsLent};
+
+mod lent;
 
 use kinds::admits;
 use layout::{Minute, offer, service, time};
+pub use lent::{Held, Offer};
 use units::{Pair, nat, pair_words};
 
 // The periods of an outage or a notice. No `kinds::Range`: the rule has one word for 32-bit words, `covers`, and one for bytes, `is_in`.
@@ -48,15 +51,6 @@ impl Window {
         // `as`, proved to lose nothing: a `try_from` would be tested as it runs.
         (self.first..=self.last).contains(&(filing.period as i32))
     }
-}
-
-// An offer, lent as its pairs' words: price, quantity, price, quantity ..
-#[derive(Clone, Copy, Debug, PartialEq, Eq)]
-pub enum Offer<'a> {
-    // All ten pairs, of which "all non-blank pairs come first".
-    Filed(&'a [i32; offer::PAIR_WORDS]),
-    // "A held offer, which may be older": at most ten pairs, and blanks anywhere.
-    Held(&'a [i32]),
 }
 
 // ---- how far an offer is walked
@@ -106,11 +100,10 @@ fn filed_walk(words: &[i32; offer::PAIR_WORDS]) -> Walk<'_>
 
 // A held offer "is still walked to its last pair", whatever blanks stand before that; those after it hold no tenths.
 #[tactic(auto, using(crate::proofs::Blanks::blanks_from))]
-fn held_walk(words: &[i32]) -> Walk<'_>
-    requires { length words.now ≤ 20 }
-    ensures { BlanksAfter (pairs_of result.pairs.now) (pairs_in words.now) }
+fn held_walk(held: Held<'_>) -> Walk<'_>
+    ensures { BlanksAfter (pairs_of result.pairs.now) (pairs_in held.entry.words.now) }
 {
-    let pairs = pair_words(words);
+    let pairs = pair_words(held.words);
     let end = count_to_last(pairs);
     Walk {
         pairs: &pairs[..end],
@@ -120,13 +113,23 @@ fn held_walk(words: &[i32]) -> Walk<'_>
 impl<'a> Walk<'a> {
     // No offer has no pairs.
     #[tactic(auto, using(offer_rules::proofs::Blanks::whole), unfolding(offer_rules::specs::Offer::pairs_in))]
+    fn of_held(offer: Option<Held<'a>>) -> Walk<'a>
+        ensures { BlanksAfter (pairs_of result.pairs.now) (pairs_in (words_held offer.entry)) }
+    {
+        match offer {
+            Some(held) => held_walk(held),
+            None => Walk { pairs: &[] },
+        }
+    }
+
+    #[tactic(auto, using(offer_rules::proofs::Blanks::whole), unfolding(offer_rules::specs::Offer::pairs_in))]
     fn of(offer: Option<Offer<'a>>) -> Walk<'a>
-        requires { AreLent offer }
-        ensures { BlanksAfter (pairs_of result.pairs.now) (pairs_in (words_in offer.entry)) }
+        requires { IsLent offer }
+        ensures { BlanksAfter (pairs_of result.pairs.now) (pairs_in (words_of offer.entry)) }
     {
         match offer {
             Some(Offer::Filed(words)) => filed_walk(words),
-            Some(Offer::Held(words)) => held_walk(words),
+            Some(Offer::Held(held)) => held_walk(held),
             None => Walk { pairs: &[] },
         }
     }
@@ -262,14 +265,14 @@ fn is_admitted(g: Grounds, filing: Filing) -> bool
 // Whether a filing inside gate closure is excepted, of a variation and of a standing offer over a held one. Old is the offer in force, if there is one. New is the
 // filed one, or where a variation is taken back a held one, or none.
 #[tactic(auto, using(crate::proofs::Admitted::not_admitted))]
-pub fn is_excepted(g: Grounds, filing: Filing, old: Option<Offer>, new: Option<Offer>) -> bool
-    requires { AreLent old × AreLent new }
-    ensures { result ≡ is_excepted (grounds_of g) filing.service filing.period filing.reason (pairs_in (words_in old.entry)) (pairs_in (words_in new.entry)) }
+pub fn is_excepted(g: Grounds, filing: Filing, old: Option<Held>, new: Option<Offer>) -> bool
+    requires { IsLent new }
+    ensures { result ≡ is_excepted (grounds_of g) filing.service filing.period filing.reason (pairs_in (words_held old.entry)) (pairs_in (words_of new.entry)) }
 {
     if !is_admitted(g, filing) {
         return false;
     }
-    let before = Walk::of(old);
+    let before = Walk::of_held(old);
     let after = Walk::of(new);
     is_total_moved(filing.reason, before, after) && before.same_prices(after)
 }

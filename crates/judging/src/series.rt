@@ -11,13 +11,13 @@ ghost use Rattle.book_rules.specs.Force.{in_force, will_stand, pairs_of};
 ghost use Rattle.book_rules.specs.Refusals.{facility_number, registration_number, gate_number, admission_number, revision_number, admitted_standing, grounds};
 ghost use Rattle.book_rules.specs.Book.{facilities_in, services_in, book_view};
 ghost use Rattle.offers.specs.PairTests.{UsesFive};
-ghost use Rattle.gate.specs.Meaning.{words_in, AreLent};
+ghost use Rattle.gate.specs.Meaning.{words_held, words_of, IsLent};
 ghost use Rattle.cells.specs.Meaning.{held_by};
 ghost use Rattle.judging.specs.Usable.{Usable};
 
 use crate::facility::Facility;
 use cells::Cell;
-use gate::{Filing, Offer};
+use gate::{Filing, Held, Offer};
 use layout::{Period, Refusal, Service, Slot, fields, offer, refuse_if};
 use offers::{Passed, is_slot_refused};
 use units::nat;
@@ -92,6 +92,7 @@ impl<'a> Series<'a> {
     }
 
     // 11 to 16 of an offer, under the book's limits and the facility's capability.
+    #[inline(always)]
     pub fn check_offer<'b>(
         &self,
         reason: u8,
@@ -115,27 +116,26 @@ impl<'a> Series<'a> {
 
     // "old", the offer in force before the call
     #[tactic(auto, unfolding(offer_rules::specs::Offer::pairs_in, book_rules::specs::Force::pairs_of))]
-    fn before(&self, period: Period) -> Option<Offer<'a>>
-        ensures lent { AreLent result }
-        ensures pairs { pairs_in (words_in result) ≡ pairs_of (in_force (book_view self.now.facility.book.words.now) self.now.facility.f self.now.service.number period.number) }
+    fn before(&self, period: Period) -> Option<Held<'a>>
+        ensures { pairs_in (words_held result) ≡ pairs_of (in_force (book_view self.now.facility.book.words.now) self.now.facility.f self.now.service.number period.number) }
     {
         let cells = self.facility.book.cells();
         let old = cells.in_force(self.facility.f, self.service.place(), period);
-        old.map(|old| Offer::Held(old.pairs()))
+        old.map(|old| Held { words: old.pairs() })
     }
 
     // "the offer that will stand afterwards": the filed one, or where it is all blank the slot's standing offer, or none where none is held.
     #[tactic(auto, using(offer_rules::proofs::Blanks::none_before), unfolding(offer_rules::specs::Offer::pairs_in, offer_rules::specs::Offer::pairs, book_rules::specs::Force::pairs_of, book_rules::specs::Force::first_of, book_rules::specs::Force::variation_made, book_rules::specs::Force::will_stand))]
     fn afterwards<'b>(&'b self, period: Period, filed: Passed<'b>) -> Option<Offer<'b>>
-        ensures lent { AreLent result }
-        ensures pairs { pairs_in (words_in result) ≡ pairs_of (will_stand (book_view self.now.facility.book.words.now) self.now.facility.f self.now.service.number period.number filed.entry.offer.now) }
+        ensures lent { IsLent result }
+        ensures pairs { pairs_in (words_of result) ≡ pairs_of (will_stand (book_view self.now.facility.book.words.now) self.now.facility.f self.now.service.number period.number filed.entry.offer.now) }
     {
         if !filed.is_all_blank() {
             return Some(Offer::Filed(filed.pairs()));
         }
         let cells = self.facility.book.cells();
         let held = cells.held_standing(self.facility.f, self.service.place(), period.slot());
-        held.map(|held| Offer::Held(held.pairs()))
+        held.map(|held| Offer::Held(Held { words: held.pairs() }))
     }
 
     // 17 of a variation. Before closure, where most are filed, no offer is looked up.
@@ -180,7 +180,7 @@ impl<'a> Series<'a> {
             period: next.number,
             reason: filed.reason,
         };
-        let old = Some(Offer::Held(held.pairs()));
+        let old = Some(Held { words: held.pairs() });
         let new = Some(Offer::Filed(filed.pairs()));
         self.facility.check_gate(filing, old, new)
     }

@@ -3,9 +3,9 @@
 // A bound stands beside a number's equation for callers that don't unfold the rule.
 #![tactic(auto)]
 
-ghost use Rattle.std.specs.Prelude.{◌≡◌, ◌≤◌, IfOk};
+ghost use Rattle.std.specs.Prelude.{◌≡◌, ◌≤◌, false, IfOk};
 ghost use Rattle.offer_rules.specs.Time.{slot_refused, period_refused};
-ghost use Rattle.offer_rules.specs.Offer.{offer_number};
+ghost use Rattle.offer_rules.specs.Offer.{pairs, blank_before_filled, offer_number};
 ghost use Rattle.layout.specs.Refusal.{drawn};
 ghost use Rattle.offers.specs.PairTests.{UsesFive};
 
@@ -45,19 +45,19 @@ pub fn is_period_refused(clock: u64, period: i32) -> bool
 
 // ---- 11 to 16
 
-// The first that applies; else the offer, of which "all non-blank pairs come first".
+// The first that applies. Where none does, "all non-blank pairs come first".
 #[tactic(auto, using(layout::proofs::Chains::passed_first, layout::proofs::Chains::refused_first, layout::proofs::Chains::is_drawn, crate::proofs::InOrder::in_order, crate::proofs::InOrder::pairs_most))]
-pub fn check_offer<'a>(
+fn judge(
     limits: &[i32; head::LIMIT_COUNT],
     capability: &[i32; facility::CAPABILITY],
     service: Service,
     reason: u8,
-    offer: &'a [i32; offer::WORDS],
-) -> Result<Passed<'a>, Refusal>
+    offer: &[i32; offer::WORDS],
+) -> Result<(), Refusal>
     requires { UsesFive service.number offer.now }
     ensures number { drawn result ≡ offer_number limits.now capability.now service.number reason offer.now }
     ensures bound { drawn result ≤ 16 }
-    ensures passed { IfOk result (λ p. (p.reason ≡ reason) × (p.offer.now ≡ offer.now)) }
+    ensures passed { drawn result ≡ 0 → blank_before_filled (pairs offer.now) ≡ false }
 {
     refuse_if(fields::LOAD_OUTAGE < reason, Refusal::OutOfRange)?;
     let filed = Filed {
@@ -71,6 +71,23 @@ pub fn check_offer<'a>(
     refuse_if(
         filed.is_above_capacity(capability, total),
         Refusal::AboveCapacity,
-    )?;
+    )
+}
+
+// The offer where none applies. In line over `judge`, which returns in a register what a call out of line would store and read again.
+#[inline(always)]
+pub fn check_offer<'a>(
+    limits: &[i32; head::LIMIT_COUNT],
+    capability: &[i32; facility::CAPABILITY],
+    service: Service,
+    reason: u8,
+    offer: &'a [i32; offer::WORDS],
+) -> Result<Passed<'a>, Refusal>
+    requires { UsesFive service.number offer.now }
+    ensures number { drawn result ≡ offer_number limits.now capability.now service.number reason offer.now }
+    ensures bound { drawn result ≤ 16 }
+    ensures passed { IfOk result (λ p. (p.reason ≡ reason) × (p.offer.now ≡ offer.now)) }
+{
+    judge(limits, capability, service, reason, offer)?;
     Ok(Passed { reason, offer })
 }
