@@ -2,18 +2,12 @@
 use mathlib.Core.Path.{◌≡◌, refl, sym}
 use mathlib.Core.Bool.{Bool, true, false, cond}
 use Prim.Native.Nat.{ℕ, ◌+◌, ◌*◌, ◌-◌, ◌/◌, ◌%◌, ◌<◌, ◌≤◌}
-use native.Mathlib.Omega.{arith}
-use lib.Dec.{eqb, leb, ltb}
-use borrow.Author.Tests.{eqb-true, leb-true}
+use lib.Dec.{eqb, ltb}
+use borrow.Author.Tests.{eqb-true}
 use Rattle.calendar_rules.specs.Calendar.{year_days, month_days, days_before, last_begun, month_at}
 use Rattle.calendar.specs.Evened.{evenly, evened}
-use Rattle.calendar_rules.proofs.Everywhere.{passes_below, everywhere, agree}
-use Rattle.calendar_rules.proofs.Begun.{later_begins_later}
-use Rattle.calendar_rules.proofs.Lengths.{months_make_the_year, months_rise, in_each_month}
-
-year_at_most : (leap : Bool) → year_days leap ≤ 366
-year_at_most true = omega arith
-year_at_most false = omega arith
+use Rattle.calendar_rules.proofs.Everywhere.{passes_below, agree}
+use Rattle.calendar_rules.proofs.Lengths.{in_each_month}
 
 -- ---- a month's days, and the days before it, as the code has them
 
@@ -42,10 +36,6 @@ days_in_turns leap = in_each (in_turns leap) (month_days leap) (turns_agree leap
 pub days_before_it : (leap : Bool) (m : ℕ) → 1 ≤ m → m ≤ 12 → days_before leap m ≡ before_evenly leap m
 days_before_it leap = in_each (before_evenly leap) (days_before leap) (before_agree leap)
 
-pub before_at_most : (leap : Bool) (m : ℕ) → m ≤ 12 → days_before leap m ≤ 366
-before_at_most leap m h =
-    omega (arith, later_begins_later (days_before leap) (months_rise leap) m 13 (omega arith), months_make_the_year leap, year_at_most leap)
-
 -- ---- the month of a day, and the day of it
 
 abbrev fallen_month : Bool → ℕ → ℕ
@@ -57,7 +47,7 @@ fallen_day leap r = evened leap r - evenly (fallen_month leap r) + 1
 abbrev day_at : Bool → ℕ → ℕ
 day_at leap r = r - days_before leap (month_at leap r) + 1
 
--- They are those of the rule, and no day is above 31.
+-- They are those of the rule.
 months_agree : (leap : Bool) → passes_below (λ r. eqb (fallen_month leap r) (month_at leap r)) (year_days leap) ≡ true
 unfolding passes_below last_begun days_before month_days
 months_agree true = refl
@@ -68,16 +58,8 @@ unfolding passes_below last_begun days_before month_days
 month_days_agree true = refl
 month_days_agree false = refl
 
-day_small : (leap : Bool) → passes_below (λ r. leb (fallen_day leap r) 31) (year_days leap) ≡ true
-unfolding passes_below
-day_small true = refl
-day_small false = refl
-
 pub month_falls : (leap : Bool) (r : ℕ) → r < year_days leap → month_at leap r ≡ fallen_month leap r
 month_falls leap r h = sym (agree (fallen_month leap) (month_at leap) (year_days leap) (months_agree leap) r h)
 
 pub day_falls : (leap : Bool) (r : ℕ) → r < year_days leap → day_at leap r ≡ fallen_day leap r
 day_falls leap r h = sym (agree (fallen_day leap) (day_at leap) (year_days leap) (month_days_agree leap) r h)
-
-pub day_most : (leap : Bool) (r : ℕ) → r < year_days leap → fallen_day leap r ≤ 31
-day_most leap r h = leb-true _ 31 (everywhere (λ k. leb (fallen_day leap k) 31) (year_days leap) (day_small leap) r h)

@@ -69,7 +69,7 @@ impl Month {
     }
 
     // After February it is two days less than evenly, in a leap year one.
-    #[tactic(auto, using(crate::proofs::Months::days_before_it, crate::proofs::Months::before_at_most))]
+    #[tactic(auto, using(crate::proofs::Months::days_before_it))]
     fn days_before(self) -> u64
         ensures { (result ≡ days_before self.leap self.number) × (result ≤ 366) }
     {
@@ -262,7 +262,7 @@ impl DayOfYear {
     }
 
     // The month and the day of it: with a February of 30 days it falls among twelve months that share 367 days evenly.
-    #[tactic(auto, using(crate::proofs::Months::month_falls, crate::proofs::Months::day_falls, crate::proofs::Months::day_most))]
+    #[tactic(auto, using(crate::proofs::Months::month_falls, crate::proofs::Months::day_falls))]
     fn month_and_day(self) -> (u64, u64)
         ensures month { (result.0 ≡ month_at self.leap self.before) × (result.0 ≤ 12) }
         ensures day { (result.1 ≡ self.before - days_before self.leap (month_at self.leap self.before) + 1) × (result.1 ≤ 31) }
