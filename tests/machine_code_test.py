@@ -25,8 +25,11 @@ def is_plain(code, at):
     name, operands = code[at].name, code[at].operands
     if name == 'shr':
         return is_of_a_quotient(code, at)
-    if name == 'mov':  # the compiler keeps registers on the stack; half of one is its sign, and where a register picks the place it may be a table of answers
+    # The compiler keeps registers on the stack; half of one is its sign, and where a register picks the place it may be a table of answers.
+    if name == 'mov':
         operands = re.sub(r'\bQWORD PTR \[rsp([+-]0x[0-9a-f]*[08])?\]', '', operands)
+    if name == 'add':  # of one that is read, not added to
+        operands = re.sub(r',QWORD PTR \[rsp([+-]0x[0-9a-f]*[08])?\]$', '', operands)
     return name in PLAIN and (name in ('lea', 'nop') or not re.search(r'\[|PTR|[c-gs]s:', operands))
 
 
