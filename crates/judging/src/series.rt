@@ -60,7 +60,7 @@ impl<'a> Series<'a> {
 
     // 5 and 9 of an offer.
     #[tactic(auto, using(layout::proofs::Chains::passed_first, layout::proofs::Chains::refused_first))]
-    fn check_registered(&self) -> Result<(), Refusal>
+    pub fn check_registered(&self) -> Result<(), Refusal>
         ensures number { drawn result ≡ (facility_number (part (facility_place self.now.facility.f) 17 self.now.facility.book.words.now) then registration_number (part (facility_place self.now.facility.f) 17 self.now.facility.book.words.now) self.now.service.number) }
         ensures bound { drawn result ≤ 9 }
     {
@@ -135,7 +135,9 @@ impl<'a> Series<'a> {
         }
         let cells = self.facility.book.cells();
         let held = cells.held_standing(self.facility.f, self.service.place(), period.slot());
-        held.map(|held| Offer::Held(Held { words: held.pairs() }))
+        held.map(|held| Offer::Held(Held {
+            words: held.pairs(),
+        }))
     }
 
     // 17 of a variation. Before closure, where most are filed, no offer is looked up.
@@ -180,7 +182,9 @@ impl<'a> Series<'a> {
             period: next.number,
             reason: filed.reason,
         };
-        let old = Some(Held { words: held.pairs() });
+        let old = Some(Held {
+            words: held.pairs(),
+        });
         let new = Some(Offer::Filed(filed.pairs()));
         self.facility.check_gate(filing, old, new)
     }

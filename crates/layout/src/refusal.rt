@@ -72,7 +72,7 @@ pub enum Refusal {
 impl Refusal {
     // Of 32 bits, as C gets it.
     pub fn number(self) -> u32
-        ensures { result ≡ number self }
+        ensures { (result ≡ number self) × (result ≤ 21) }
     {
         self as u32
     }
@@ -89,7 +89,7 @@ pub fn refuse_if(applies: bool, refusal: Refusal) -> Result<(), Refusal>
 
 // The number that a test or a call returns: 0 where it isn't refused.
 pub fn drawn(outcome: Result<(), Refusal>) -> u32
-    ensures { result ≡ drawn outcome }
+    ensures { (result ≡ drawn outcome) × (result ≤ 21) }
 {
     match outcome {
         Ok(()) => 0,
