@@ -1,5 +1,7 @@
 // "Then cells of 24 words, numbered ((f·S + s)·2 + h)·336 + slot, h 0 standing, 1 variation: 0 stamp (0 empty, 1 standing, P + 1 variation),
 // 1 proportion, .. 4–23 pairs"; "word 2 becomes ramp up times 10,000 plus ramp down, word 3 the minute" of acceptance.
+ghost use Rattle.std.specs.Prelude.{◌<◌};
+
 use crate::time;
 
 pub const STAMP: usize = 0;
@@ -22,7 +24,15 @@ pub const SLOTS: usize = time::SLOTS as usize;
 // "16,128·F·S": the cells of a facility for one service, two halves of a cell for each slot.
 pub const SERVICE_WORDS: usize = 2 * SLOTS * WORDS;
 
-// Numbers, as a cell's word 0 is: a stamp is held against it, and a variation's is P + 1.
-pub const EMPTY_STAMP: u32 = 0;
+// "0 stamp (0 empty, 1 standing, P + 1 variation)": a number, which a cell's word 0 holds, and no enum.
+#[derive(Clone, Copy, Debug, PartialEq, Eq)]
+pub struct Stamp {
+    pub number: u32,
+    pub ghost in_a_word: { number < 2147483648 },
+}
 
-pub const STANDING_STAMP: u32 = 1;
+impl Stamp {
+    pub const EMPTY: Stamp = Stamp { number: 0 };
+
+    pub const STANDING: Stamp = Stamp { number: 1 };
+}

@@ -13,6 +13,7 @@ pub mod service;
 pub mod sizes;
 pub mod time;
 
+pub use cell::Stamp;
 pub use refusal::{Refusal, drawn, refuse_if};
 pub use service::Service;
 pub use sizes::Sizes;

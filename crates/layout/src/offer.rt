@@ -11,7 +11,10 @@ pub const WORDS: usize = 23;
 
 pub const PAIR_COUNT: usize = 10;
 
-// Their words, price and quantity each.
+// "for 1 to 3 the proportion and five pairs; for 4 five pairs"
+pub const FEWER_PAIRS: usize = 5;
+
+// The words of all, price and quantity each.
 pub const PAIR_WORDS: usize = 2 * PAIR_COUNT;
 
 // 8 and 11 "outside 0–99,999": of a maximum and of a quantity

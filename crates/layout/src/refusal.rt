@@ -69,12 +69,12 @@ pub enum Refusal {
     Date = 21,
 }
 
-impl Refusal {
-    // Of 32 bits, as C gets it.
-    pub fn number(self) -> u32
-        ensures { (result ≡ number self) × (result ≤ 21) }
-    {
-        self as u32
+// Of 32 bits, as C gets it.
+impl From<Refusal> for u32 {
+    ghost from_gives = { λ refusal n. (n ≡ number refusal) × (n ≤ 21) };
+
+    fn from(refusal: Refusal) -> u32 {
+        refusal as u32 // its discriminant
     }
 }
 
@@ -93,6 +93,6 @@ pub fn drawn(outcome: Result<(), Refusal>) -> u32
 {
     match outcome {
         Ok(()) => 0,
-        Err(refusal) => refusal.number(),
+        Err(refusal) => u32::from(refusal),
     }
 }

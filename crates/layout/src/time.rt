@@ -3,6 +3,8 @@
 ghost use Rattle.std.specs.Prelude.{◌≡◌, ◌+◌, ◌≤◌, ◌<◌};
 ghost use Rattle.offer_rules.specs.Time.{slot_of};
 
+use crate::cell::Stamp;
+
 pub const PERIOD_MINUTES: u64 = 30;
 
 pub const DAY_MINUTES: u64 = 1440;
@@ -37,11 +39,12 @@ impl Period {
         }
     }
 
-    // "0 stamp (0 empty, 1 standing, P + 1 variation)"
-    pub fn stamp(self) -> u32
-        ensures { (result ≡ self.number + 1) × (result < 2147483648) }
+    pub fn stamp(self) -> Stamp
+        ensures { result.number ≡ self.number + 1 }
     {
-        (self.number + 1) as u32
+        Stamp {
+            number: (self.number + 1) as u32,
+        }
     }
 }
 

@@ -1,7 +1,7 @@
 // Prices and quantities as types of their own, the pairs of an offer, signed words as counts, and tests of words.
 #![tactic(auto)]
 
-ghost use Rattle.std.specs.Prelude.{◌≡◌, ℕ, [], ◌/◌, ◌<◌, length, slice_index_or};
+ghost use Rattle.std.specs.Prelude.{◌≡◌, ◌/◌, ◌<◌, length};
 ghost use Rattle.offer_rules.specs.Numbers.{to_nat, beyond, any_beyond};
 ghost use Rattle.offer_rules.specs.Offer.{is_blank, pairs_in};
 ghost use Rattle.units.specs.Typed.{pair_of, pairs_of, typed};
@@ -21,18 +21,7 @@ pub struct Pair {
     pub quantity: Quantity,
 }
 
-impl From<[i32; 2]> for Pair {
-    ghost from_gives = { λ words pair. pair ≡ typed words };
-
-    fn from([price, quantity]: [i32; 2]) -> Pair {
-        Pair {
-            price: Price(price),
-            quantity: Quantity(quantity),
-        }
-    }
-}
-
-// Word by word, where a copy of both would be read as one word of 64 bits.
+// Word by word: a copy of both would be read as one word of 64 bits.
 impl From<&[i32; 2]> for Pair {
     ghost from_gives = { λ words pair. pair ≡ typed words.now };
 
@@ -45,6 +34,12 @@ impl From<&[i32; 2]> for Pair {
 }
 
 impl Pair {
+    // Neither a price nor a quantity.
+    pub const EMPTY: Pair = Pair {
+        price: Price(0),
+        quantity: Quantity(0),
+    };
+
     // "A pair with quantity 0 is blank"
     #[tactic(auto, unfolding(offer_rules::specs::Offer::is_blank))]
     pub fn is_blank(self) -> bool
@@ -69,7 +64,7 @@ pub fn nat(x: i32) -> u64
     x.max(0) as u64
 }
 
-// Outside lo to hi.
+// Outside lo to hi, two words as in the rule's `beyond`: a range of std's isn't copied.
 pub fn is_beyond(lo: i32, hi: i32, x: i32) -> bool
     ensures { result ≡ beyond lo hi x }
 {
@@ -84,8 +79,6 @@ pub fn any_beyond(words: &[i32], lo: i32, hi: i32) -> bool
         .iter()
         .fold(false, |any, x| any | is_beyond(lo, hi, *x))
 }
-
-// ---- words copied
 
 // As an array: copy_from_slice tests, each time, whether the two overlap.
 pub fn copy_words<const N: usize>(to: &mut [i32], words: &[i32; N])
