@@ -53,7 +53,7 @@ fn numbers_text(out: &mut Printed, answer: Answer, words: &[i32])
     out.push_str("\n");
 }
 
-// "prints number, word 0, sum, parted by one space": this alone is then in what is lent.
+// "prints number, word 0, sum, parted by one space": this alone is then in what is lent. Of an answer's words it takes the first, `whole_text` all.
 #[tactic(auto, unfolding(crate::specs::Text::line))]
 pub fn line_text(out: &mut Printed, answer: Answer)
     ensures bytes { out.new.bytes ≡ line (answer_of answer) }
@@ -95,9 +95,7 @@ fn print<W: Write>(out: &mut W, text: &str) -> io::Result<()>
     out.flush()
 }
 
-// Each of the two prints the text of its name; what they share is `print`.
-
-// An answer's line.
+// An answer's line. With its twin below it shares `print`: a function over both texts would take one of two functions as an argument, and read no shorter.
 pub fn print_line<W: Write>(out: &mut W, answer: Answer) -> io::Result<()>
     ensures { OnOk result (Appends (W.contents out.old) (W.contents out.new) (line (answer_of answer))) }
 {

@@ -9,7 +9,7 @@ ghost use Rattle.listed.specs.ListAnswered.{numbers_of, flat, ListAnswered};
 
 use book::call;
 use cells::Answer;
-use layout::{Refusal, answer, fields};
+use layout::{Refusal, answer, fields, head};
 use opening::open;
 use std::array;
 
@@ -19,6 +19,7 @@ const NUMBERS: usize = 1 + answer::WORDS + 1;
 fn widened(words: &[i32; answer::WORDS]) -> [i64; answer::WORDS]
     ensures { result ≡ words.now }
 {
+    // By places: `words.map(i64::from)` was tried, and isn't proved.
     array::from_fn(|i| i64::from(words[i]))
 }
 
@@ -50,7 +51,7 @@ pub fn answer_list(
     words: &mut [i32],
     facilities: i32,
     services: i32,
-    limits: [i32; 6],
+    limits: [i32; head::LIMIT_COUNT],
     records: &[u8],
     answers: &mut [i64],
 ) -> Result<usize, Refusal>

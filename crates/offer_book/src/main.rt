@@ -20,7 +20,7 @@ fn step<R: Read, W: Write>(input: &mut R, output: &mut W, words: &mut [i32]) -> 
 }
 
 // "a book of 16,224 words, all zero before opening, F 1, S 1, energy −4,500.00 to 4,500.00, others to 4,500.00".
-// The records have a number that no run uses up.
+// As many records as no run uses up: a `loop` isn't proved to end, and None ends `try_for_each`.
 fn main(rt: HostRuntime) {
     let mut words = [0i32; 16224];
     let limits = [-450000, 450000, 450000, 450000, 450000, 450000];

@@ -39,7 +39,7 @@ fn list<R: Read, W: Write>(input: &mut R, output: &mut W, words: &mut [i32]) -> 
     (0..nat(count)).try_for_each(|_| step(input, output, words))
 }
 
-// Room for 19 facilities of one service, or 4 of five. The lists have a number that no run uses up.
+// Room for 19 facilities of one service, or 4 of five. As many lists as no run uses up: a `loop` isn't proved to end, and None ends `try_for_each`.
 fn main(rt: HostRuntime) {
     let mut words = [0i32; 322752];
     let mut input = rt.stdin();
