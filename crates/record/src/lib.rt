@@ -19,17 +19,17 @@ use units::{copy_words, nat};
 pub type Record = [u8; BYTES];
 
 // The words past an offer's five pairs and past a capability's W16.
-const W10: usize = W0 + 4 * 10;
+const W10: usize = W0 + 4 * (2 * offer::FEWER_PAIRS);
 
 const W17: usize = W0 + 4 * facility::CAPABILITY;
 
 // "Words are signed 32-bit, most significant byte first."
-#[tactic(auto, using(crate::proofs::TwosComplement::four_signed, units::proofs::Counts::word_back), unfolding(book_rules::specs::Record::word_at))]
+#[tactic(auto, using(crate::proofs::TwosComplement::four_signed, units::proofs::Counts::word_back))]
 pub fn word_at(bytes: &[u8], at: usize) -> i32
     requires { at + 4 ≤ length bytes.now }
     ensures { result ≡ word_at bytes.now at }
 {
-    i32::from_be_bytes([bytes[at], bytes[at + 1], bytes[at + 2], bytes[at + 3]])
+    i32::from_be_bytes(*bytes[at..at + 4].as_array().unwrap())
 }
 
 // N words from byte `at` on.
@@ -74,7 +74,8 @@ fn is_record(bytes: &Record) -> bool
     bytes.starts_with(b"SOB\0\x01") && (1..=9).contains(&bytes[CALL])
 }
 
-// The calls that use byte 6, the facility.
+// The calls that use byte 6, the facility. This and the next are each a match over byte 5's nine numbers, with ranges for unknown values, as document 01 asks.
+// An arm for each number: joined to `2..=5 | 8`, or to `2 | 3 | 4 | 5 | 8`, they are compiled to comparisons, and each record test takes four instructions more.
 #[tactic(auto, using(crate::proofs::UnknownCalls::unknown_uses_none), unfolding(book_rules::specs::Record::used))]
 fn uses_facility(call: u8) -> bool
     ensures { (s : ℕ) → result ≡ used call s 6 }
@@ -172,7 +173,7 @@ fn has_stray(bytes: &Record) -> bool
     }
 }
 
-// 2, 3, 4, for F facilities and S services; else the record.
+// 2, 3, 4, for F facilities and S services; else the record. For every F and S, as C may send any: layout::Sizes has a book's alone.
 #[tactic(auto, using(layout::proofs::Chains::passed_first, layout::proofs::Chains::refused_first, crate::proofs::Refused::other_length), unfolding(book_rules::specs::Record::record_number))]
 pub fn test_record(bytes: &[u8], facilities: u64, services: u64) -> Result<&Record, Refusal>
     ensures number { drawn result ≡ record_number bytes.now facilities services }
@@ -195,7 +196,7 @@ pub fn is_sized(facilities: i32, services: i32) -> bool
         & ((services == head::ONE_SERVICE) | (services == head::ALL_SERVICES))
 }
 
-// 20 where F or S is wrong, else 2, 3 and 4: what the gateway's C program asks.
+// 20 where F or S is wrong, else 2, 3 and 4: what the gateway's C program asks, and for every F and S, as it may send any.
 #[tactic(auto, using(layout::proofs::Chains::passed_first, layout::proofs::Chains::refused_first, units::proofs::Counts::word_back), unfolding(book_rules::specs::Record::record_test))]
 pub fn test_sized_record(bytes: &[u8], facilities: i32, services: i32) -> Result<(), Refusal>
     ensures { drawn result ≡ record_test bytes.now facilities services }

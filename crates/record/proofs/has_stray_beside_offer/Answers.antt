@@ -3,8 +3,7 @@
 use Rattle.std.proofs.Common.{◌≡◌, refl, sym, ap, ◌∙◌, Bool, ◌||◌, List, [], ◌∷◌, ℕ, arith, length, drop}
 use borrow.Author.Tests.{ne_eqb, lt-ltb, le-ltb}
 use Rattle.book_rules.specs.Record.{any_stray, used_by_offer, used}
-use Rattle.record.proofs.StrayBytes.{any_set}
-use Rattle.record.proofs.StrayBytes.{Gap, gap, as_lent, set_in_gaps, set_or, gap_bytes, unused_bytes, stray_in_gaps}
+use Rattle.record.proofs.StrayBytes.{any_set, Gap, gap, as_lent, set_in_gaps, set_or, gap_bytes, unused_bytes, stray_in_gaps}
 use Rattle.record.proofs.has_stray_beside_offer.Goals as goal
 
 energy_stray : (t : ℕ) (b : List ℕ) (p q : Gap) → t ≡ 0 → length b ≡ 112 → gap_bytes b (p ∷ (q ∷ [])) ≡ unused_bytes (used 3 0) b 6 106
