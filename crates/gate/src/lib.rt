@@ -69,7 +69,7 @@ fn filled_count(pairs: &[[i32; 2]]) -> usize
 {
     pairs
         .iter()
-        .position(|words| Pair::from(*words).is_blank())
+        .position(|words| Pair::from(words).is_blank())
         .unwrap_or(pairs.len())
 }
 
@@ -81,7 +81,7 @@ fn count_to_last(pairs: &[[i32; 2]]) -> usize
 {
     pairs
         .iter()
-        .rposition(|words| !Pair::from(*words).is_blank())
+        .rposition(|words| !Pair::from(words).is_blank())
         .map_or(0, |last| last + 1)
 }
 
@@ -158,7 +158,7 @@ impl Walk<'_> {
     {
         let mut total = 0;
         for words in self.pairs {
-            total += tenths_of(Pair::from(*words));
+            total += tenths_of(Pair::from(words));
         }
         total
     }
