@@ -31,7 +31,7 @@ impl From<Refusal> for Answer {
     ghost from_gives = { λ refusal reply. answer_of reply ≡ plain (number refusal) };
 
     fn from(refusal: Refusal) -> Answer {
-        plain(refusal.number())
+        plain(u32::from(refusal))
     }
 }
 

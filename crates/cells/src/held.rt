@@ -1,12 +1,13 @@
 // A cell: its words are decoded here, and stores' write_cell encodes them; nothing else knows their order.
-ghost use Rattle.std.specs.Prelude.{◌≡◌, ◌≤◌, ◌<◌, pos, nat_abs, drop};
-ghost use Rattle.offer_rules.specs.Numbers.{eq_z, word};
+// `as` narrows a stamp and loses nothing, which is proved; a `try_from` would be tested as it runs.
+ghost use Rattle.std.specs.Prelude.{◌≡◌, ◌≤◌, pos, nat_abs, drop};
+ghost use Rattle.offer_rules.specs.Numbers.{eq_z};
 ghost use Rattle.offer_rules.specs.Offer.{proportion, ramp_up, ramp_down, pairs, sum_of};
 ghost use Rattle.book_rules.specs.Words.{cell_stamp};
 ghost use Rattle.book_rules.specs.Refusals.{equal_words};
 ghost use Rattle.cells.specs.Meaning.{held_by};
 
-use layout::{cell, offer};
+use layout::{Stamp, cell, offer};
 use offers::{sum_of, words_of_pairs};
 
 // Whether each word is the same, asked of all without a branch. `==` was measured: it branches, and a standing offer filed over
@@ -36,11 +37,10 @@ pub(crate) struct Terms {
 
 impl<'a> Cell<'a> {
     // "0 stamp (0 empty, 1 standing, P + 1 variation)"
-    pub(crate) fn is_stamped(&self, stamp: u32) -> bool
-        requires { stamp < 2147483648 }
-        ensures { result ≡ eq_z (cell_stamp self.now.words.now) (pos stamp) }
+    pub(crate) fn is_stamped(&self, stamp: Stamp) -> bool
+        ensures { result ≡ eq_z (cell_stamp self.now.words.now) (pos stamp.number) }
     {
-        self.words[cell::STAMP] == stamp as i32
+        self.words[cell::STAMP] == stamp.number as i32
     }
 
     // "On a damaged word 2 the ramps are quotient and remainder rounded toward zero."

@@ -1,4 +1,5 @@
 // The offer in force, and what is told of it.
+// `as` makes a clock signed, and loses nothing: it is a minute in time.
 ghost use Rattle.std.specs.Prelude.{◌≡◌, ◌≤◌, ◌<◌, ◌+◌, ◌+ℤ◌, nat_abs, Some};
 ghost use Rattle.offer_rules.specs.Numbers.{word};
 ghost use Rattle.offer_rules.specs.Time.{is_fresh};
@@ -65,7 +66,7 @@ impl<'a> InForce<'a> {
         let cell = self.cell();
         let terms = cell.terms();
         let mut words = [0; answer::WORDS];
-        words[0] = self.first_word(clock);
+        words[answer::FIRST] = self.first_word(clock);
         words[answer::PROPORTION] = terms.proportion;
         words[answer::RAMP_UP] = terms.up;
         words[answer::RAMP_DOWN] = terms.down;

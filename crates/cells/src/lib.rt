@@ -1,6 +1,5 @@
 // The book's words (document 01, "The book's words" and "Offer in force"): places, stores, the offer in force,
 // and what a look-up and a total answer. Each read goes straight to its words; the book is never copied.
-// Narrowing stays `as`, proved to lose nothing: a `try_from` would be tested as it runs.
 #![tactic(auto)]
 
 mod answers;
@@ -15,6 +14,6 @@ pub use answers::{Answer, plain};
 pub use filing::Filing;
 pub use held::Cell;
 pub use in_force::InForce;
-pub use places::{CellPlace, Half};
+pub use places::{CellPlace, Half, Place};
 pub use stores::{store_offer, store_words};
-pub use view::Cells;
+pub use view::{Cells, PlaceCells};

@@ -12,18 +12,26 @@ pub enum Half {
     Variation = 1,
 }
 
-impl Half {
-    fn number(self) -> usize
-        ensures { (result ≡ half_number self) × (result < 2) }
-    {
-        self as usize
+impl From<Half> for usize {
+    ghost from_gives = { λ half n. (n ≡ half_number half) × (n < 2) };
+
+    fn from(half: Half) -> usize {
+        half as usize // its discriminant
     }
+}
+
+// A facility's cells for one service: those of facility f and service s, in a book of these sizes.
+#[derive(Clone, Copy, Debug, PartialEq, Eq)]
+pub struct Place {
+    pub sizes: Sizes,
+    pub f: usize,
+    pub s: usize,
+    pub ghost inside: { (f < sizes.facilities) × (s < sizes.services) },
 }
 
 #[derive(Clone, Copy, Debug, PartialEq, Eq)]
 pub struct CellPlace {
-    pub f: usize,
-    pub s: usize,
+    pub place: Place,
     pub half: Half,
     pub slot: Slot,
 }
@@ -31,13 +39,13 @@ pub struct CellPlace {
 impl CellPlace {
     // "numbered ((f·S + s)·2 + h)·336 + slot": added up by services, so that the two cells of a slot lie a constant apart in a total's loop.
     #[tactic(auto, unfolding(book_rules::specs::Words::cell_place))]
-    pub(crate) fn start(self, sizes: Sizes) -> usize
-        requires { (self.f < sizes.facilities) × (self.s < sizes.services) }
-        ensures place { result ≡ cell_place sizes.facilities sizes.services self.f self.s (half_number self.half) self.slot.number }
-        ensures room { result + 24 ≤ book_size sizes.facilities sizes.services }
+    pub(crate) fn start(self) -> usize
+        ensures place { result ≡ cell_place self.place.sizes.facilities self.place.sizes.services self.place.f self.place.s (half_number self.half) self.slot.number }
+        ensures room { result + 24 ≤ book_size self.place.sizes.facilities self.place.sizes.services }
     {
+        let Place { sizes, f, s } = self.place;
         sizes.first_cell()
-            + cell::SERVICE_WORDS * (self.f * sizes.services + self.s)
-            + cell::WORDS * (self.half.number() * cell::SLOTS + self.slot.number)
+            + cell::SERVICE_WORDS * (f * sizes.services + s)
+            + cell::WORDS * (usize::from(self.half) * cell::SLOTS + self.slot.number)
     }
 }

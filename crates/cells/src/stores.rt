@@ -1,13 +1,15 @@
 // What an accepted call writes in the book.
-ghost use Rattle.std.specs.Prelude.{◌≡◌, true, false, ◌+◌, ◌≤◌, ◌<◌, pos, length};
+// `as` narrows a stamp and a minute, and loses nothing, which is proved; a `try_from` would be tested as it runs.
+ghost use Rattle.std.specs.Prelude.{◌≡◌, false, ◌+◌, ◌≤◌, pos, length};
 ghost use Rattle.offer_rules.specs.Numbers.{beyond};
 ghost use Rattle.offer_rules.specs.Offer.{accepted_at, most_ramp};
-ghost use Rattle.book_rules.specs.Words.{put, cell_place, packed_ramps, ramps_fit, cell};
+ghost use Rattle.book_rules.specs.Words.{put, packed_ramps, cell};
+ghost use Rattle.book_rules.specs.Book.{write_cell};
 ghost use Rattle.cells.specs.Meaning.{Sized, half_number};
 
 use crate::filing::Filing;
 use crate::places::CellPlace;
-use layout::{Sizes, cell, offer};
+use layout::{cell, offer};
 use offers::words_of_pairs;
 use units::copy_words;
 
@@ -24,10 +26,10 @@ fn packed_ramps(up: i32, down: i32) -> i32
 #[tactic(auto, unfolding(offer_rules::specs::Numbers::any_beyond))]
 fn write_cell(words: &mut [i32], filing: Filing<'_>)
     requires { length words.old ≡ 24 }
-    ensures { words.new ≡ cell filing.entry.stamp (accepted_at filing.entry.minute.number filing.entry.offer.now) }
+    ensures { words.new ≡ cell filing.entry.stamp.number (accepted_at filing.entry.minute.number filing.entry.offer.now) }
 {
     let offer = filing.offer;
-    words[cell::STAMP] = filing.stamp as i32;
+    words[cell::STAMP] = filing.stamp.number as i32;
     words[cell::PROPORTION] = offer[offer::PROPORTION];
     words[cell::RAMPS] = packed_ramps(offer[offer::RAMP_UP], offer[offer::RAMP_DOWN]);
     words[cell::MINUTE] = filing.minute.number as i32;
@@ -35,12 +37,12 @@ fn write_cell(words: &mut [i32], filing: Filing<'_>)
 }
 
 // "An accepted offer writes one cell's 24 words and no other word."
-#[tactic(auto, unfolding(book_rules::specs::Words::put))]
-pub fn store_offer(book: &mut [i32], sizes: Sizes, place: CellPlace, filing: Filing<'_>)
-    requires { Sized book.old sizes.facilities sizes.services × (place.f < sizes.facilities) × (place.s < sizes.services) }
-    ensures { book.new ≡ put book.old (cell_place sizes.facilities sizes.services place.f place.s (half_number place.half) place.slot.number) (cell filing.entry.stamp (accepted_at filing.entry.minute.number filing.entry.offer.now)) }
+#[tactic(auto, unfolding(book_rules::specs::Words::put, book_rules::specs::Book::write_cell))]
+pub fn store_offer(book: &mut [i32], at: CellPlace, filing: Filing<'_>)
+    requires { Sized book.old at.place.sizes.facilities at.place.sizes.services }
+    ensures { book.new ≡ write_cell book.old at.place.f at.place.s (half_number at.half) at.slot.number (cell filing.entry.stamp.number (accepted_at filing.entry.minute.number filing.entry.offer.now)) }
 {
-    let at = place.start(sizes);
+    let at = at.start();
     let end = at + cell::WORDS;
     write_cell(&mut book[at..end], filing);
 }

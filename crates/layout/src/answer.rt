@@ -4,6 +4,9 @@ use crate::offer;
 // "24 words"
 pub const WORDS: usize = 24;
 
+// Of a look-up; of a total "word 0 counts facilities with an offer in force".
+pub const FIRST: usize = 0;
+
 pub const STANDING: i32 = 1;
 
 pub const VARIATION: i32 = 2;

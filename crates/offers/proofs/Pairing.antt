@@ -5,9 +5,8 @@ use lib.IntN.{+ℤ_assoc, +ℤ_idr}
 use Rattle.offer_rules.specs.Offer as rule
 use Rattle.offer_rules.specs.Offer.{is_blank, all_blank, blank_before_filled, sum_of}
 use Rattle.offer_rules.proofs.Blanks.{none_before, first_tells}
-use Rattle.units.specs.Typed.{typed, pair_of}
+use Rattle.units.specs.Typed.{typed, pair_of, pairs_of}
 use Rattle.units.specs.declared.Pair.{Pair}
-use Rattle.units.specs.Typed.{pairs_of}
 
 -- pair i and those after it
 pub pair_next : (ws : List (List ℤ)) (i : ℕ) → i < length ws → pairs_of (drop i ws) ≡ pair_of (typed (get_or ws i [])) ∷ pairs_of (drop (i + 1) ws)

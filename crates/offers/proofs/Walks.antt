@@ -16,7 +16,7 @@ use Rattle.offer_rules.proofs.Blanks.{none_before, blanks_have_none, sum_of_firs
 use Rattle.layout.specs.Refusal.{number, drawn}
 use Rattle.layout.specs.declared.refusal.Refusal.{Refusal}
 use Rattle.layout.specs.declared.refusal.Refusal.TheVariants.{OutOfRange}
-use Rattle.units.specs.Typed.{price_of, quantity_of, typed, pair_of}
+use Rattle.units.specs.Typed.{price_of, quantity_of, typed, pair_of, pairs_of}
 use Rattle.units.specs.declared.Price.{Price}
 use Rattle.units.specs.declared.Pair as typed
 use Rattle.units.specs.declared.Quantity.{Quantity}
@@ -24,7 +24,6 @@ use Rattle.units.proofs.Adding.{abs_add}
 use Rattle.offers.specs.declared.walk.Findings.{Findings}
 use Rattle.offers.proofs.Pairing.{pair_next}
 use Rattle.offers.specs.PairTests.{blank, pair_is_out, no_pair, is_empty, all_empty, still_rises, with_filled, none_yet, found_from, pairs_number, used_pairs, UsesFive}
-use Rattle.units.specs.Typed.{pairs_of}
 
 pub total_grows : (f : Findings) (p : Price) (q : Quantity) → nat_abs (with_filled f p q).total.0 ≤ nat_abs f.total.0 + nat_abs q.0
 unfolding with_filled

@@ -1,3 +1,3 @@
--- Definitions that only the contracts of this crate's functions cite.
+-- Definitions that the contracts of this crate's functions cite, and of them UsesFive those of its callers too.
 pub mod Typed
 pub mod PairTests

@@ -1,4 +1,4 @@
--- A word as a ramp rate or as a proportion, and a service's price limits.
+-- A service's price limits, as the code's type has them.
 use Rattle.std.specs.Prelude.{List, ℕ, ℤ}
 use Rattle.offer_rules.specs.Offer as rule
 use Rattle.units.specs.Typed.{price_of}

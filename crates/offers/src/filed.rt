@@ -12,9 +12,6 @@ use crate::walk::{Findings, walk};
 use layout::{Refusal, Service, offer};
 use units::Pair;
 
-// "for 1 to 3 the proportion and five pairs; for 4 five pairs"
-const FEWER_PAIRS: usize = 5;
-
 #[derive(Clone, Copy, Debug, PartialEq, Eq)]
 pub struct Filed<'a> {
     pub service: Service,
@@ -44,31 +41,35 @@ impl<'a> Filed<'a> {
         if self.service.is_energy() {
             offer::PAIR_COUNT
         } else {
-            FEWER_PAIRS
+            offer::FEWER_PAIRS
         }
     }
 
     // ---- 11 to 13: the pairs before the first blank
 
     // Whether the walk may end after five pairs. Services 1 to 4 use no more, and the others are empty; they are tested where 11 would refuse an empty one.
-    fn do_five_suffice(&self) -> bool
+    fn five_suffice(&self) -> bool
         ensures { result ≡ (not (eqb self.now.service.number 0) && not (pair_is_out self.now.limits.lowest self.now.limits.highest no_pair)) }
     {
-        !self.service.is_energy() && !self.limits.is_out_of_range(Pair::from([0, 0]))
+        !self.service.is_energy() && !self.limits.is_out_of_range(Pair::EMPTY)
     }
 
-    // Five pairs, and the other five where the walk has not ended before them and they may change something; whether they may is asked after the first five, with nothing
-    // more to keep on the way.
+    // Five pairs, and the other five where the walk has not ended before them and they may change something. Whether they may is asked after the first five:
+    // asked before them, the answer would have to be kept while they are walked.
     fn findings(&self) -> Result<Findings, Refusal>
         ensures found { result ≡ found_in self.now.limits.lowest self.now.limits.highest (pairs self.now.offer.now) }
         ensures within { IfOk result (λ f. f.filled ≤ used_pairs self.now.service.number) }
     {
         let pairs = self.pairs();
-        let five = walk(self.limits, Findings::NONE_YET, &pairs[..FEWER_PAIRS])?;
-        if five.filled < FEWER_PAIRS || self.do_five_suffice() {
+        let five = walk(
+            self.limits,
+            Findings::NONE_YET,
+            &pairs[..offer::FEWER_PAIRS],
+        )?;
+        if five.filled < offer::FEWER_PAIRS || self.five_suffice() {
             return Ok(five);
         }
-        walk(self.limits, five, &pairs[FEWER_PAIRS..])
+        walk(self.limits, five, &pairs[offer::FEWER_PAIRS..])
     }
 
     // ---- 11 to 13: all pairs

@@ -34,6 +34,7 @@ pub fn is_slot_refused(slot: i32) -> bool
 }
 
 // "P begun (30·P ≤ now) or P ≥ 48·(d + 7)". A period below 0 counts as period 0, which starts at minute 0 and has begun.
+// Any clock, also one that no Minute has.
 #[tactic(auto, using(crate::proofs::Begun::refused_as_count))]
 pub fn is_period_refused(clock: u64, period: i32) -> bool
     ensures { result ≡ period_refused clock period }
@@ -74,7 +75,7 @@ fn judge(
     )
 }
 
-// The offer where none applies. In line over `judge`, which returns in a register what a call out of line would store and read again.
+// The offer where none applies. Its reason and its words are two parameters, as a record has them apart: what has passed both is a Passed. In line over `judge`, which returns in a register what a call out of line would store and read again.
 #[inline(always)]
 pub fn check_offer<'a>(
     limits: &[i32; head::LIMIT_COUNT],

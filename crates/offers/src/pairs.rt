@@ -1,6 +1,6 @@
 // The ten pairs of an offer, and their quantities added.
 // Prices and quantities have types of their own, so that neither is taken for the other.
-ghost use Rattle.std.specs.Prelude.{◌≡◌, ◌≤◌, nat_abs, length, drop};
+ghost use Rattle.std.specs.Prelude.{◌≡◌, ◌≤◌, ◌-◌, nat_abs, length, drop};
 ghost use Rattle.offer_rules.specs.Offer.{pairs_in, pairs, sum_of};
 ghost use Rattle.offers.specs.PairTests.{is_empty};
 ghost use Rattle.units.specs.Typed.{pairs_of};
@@ -17,11 +17,12 @@ fn ten_pairs(words: &[i32; offer::PAIR_WORDS]) -> &[[i32; 2]; offer::PAIR_COUNT]
     pair_words(words).as_array().unwrap()
 }
 
-// The words of an offer's pairs.
-pub fn words_of_pairs(offer: &[i32; offer::WORDS]) -> &[i32; offer::PAIR_WORDS]
-    ensures { result.now ≡ drop 3 offer.now }
+// The words of the pairs, which come last in an offer's words and in a cell's.
+pub fn words_of_pairs<const N: usize>(words: &[i32; N]) -> &[i32; offer::PAIR_WORDS]
+    requires { 20 ≤ N }
+    ensures { result.now ≡ drop (N - 20) words.now }
 {
-    offer.last_chunk().unwrap()
+    words.last_chunk().unwrap()
 }
 
 #[tactic(auto, unfolding(offer_rules::specs::Offer::pairs))]
@@ -49,5 +50,5 @@ pub fn sum_of(pairs: &[i32; offer::PAIR_WORDS]) -> i64
 pub fn is_empty(pair: Pair) -> bool
     ensures { result ≡ is_empty pair.price pair.quantity }
 {
-    pair == Pair::from([0, 0])
+    pair == Pair::EMPTY
 }

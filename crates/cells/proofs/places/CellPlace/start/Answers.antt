@@ -7,5 +7,6 @@ pub returns-clause-room : goal.returns-clause-room
 unfolding cell_place
 returns-clause-room c =
     let a = c.args in
-    let inside = cell_inside a.sizes.facilities a.sizes.services a.self.f a.self.s c.number.result a.self.slot.number c.requires.0 c.requires.1 c.number.ensures.1 a.self.slot.in_week in
+    let p = a.self.place in
+    let inside = cell_inside p.sizes.facilities p.sizes.services p.f p.s c.from.result a.self.slot.number p.inside.0 p.inside.1 c.from.ensures.1 a.self.slot.in_week in
     omega arith

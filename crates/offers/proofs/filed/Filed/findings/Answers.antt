@@ -6,7 +6,7 @@ use Rattle.offers.specs.PairTests.{found_from}
 use Rattle.units.specs.Typed.{pairs_of}
 use Rattle.offers.proofs.Walks.{five_end, five_stop, five_pass, five_suffice, used_counted}
 use Rattle.offers.proofs.filed.Filed.findings.Goals as goal
-use Rattle.offers.proofs.filed.Filed.findings.Goals.{then-five-lt-FEWER_PAIRS-via-then-five-lt-FEWER_PAIRS, then-five-lt-FEWER_PAIRS-via-else-five-lt-FEWER_PAIRS+then-do_five_suffice}
+use Rattle.offers.proofs.filed.Filed.findings.Goals.{then-five-lt-FEWER_PAIRS-via-then-five-lt-FEWER_PAIRS, then-five-lt-FEWER_PAIRS-via-else-five-lt-FEWER_PAIRS+then-five_suffice}
 
 pub returns-in_err-five-clause-found : goal.returns-in_err-five-clause-found
 returns-in_err-five-clause-found c =
@@ -26,9 +26,9 @@ returns-then-five-lt-FEWER_PAIRS-clause-found c =
     elim c.then-five-lt-FEWER_PAIRS.branch [
       | then-five-lt-FEWER_PAIRS-via-then-five-lt-FEWER_PAIRS w ↦
           sym (five_stop a.self.now.limits.lowest a.self.now.limits.highest p.result.now l p.ensures.each.0 p.ensures.each.1 five h w.if-five-lt-FEWER_PAIRS.true)
-      | then-five-lt-FEWER_PAIRS-via-else-five-lt-FEWER_PAIRS+then-do_five_suffice w ↦
+      | then-five-lt-FEWER_PAIRS-via-else-five-lt-FEWER_PAIRS+then-five_suffice w ↦
           sym (five_pass a.self.now.limits.lowest a.self.now.limits.highest p.result.now l p.ensures.each.0 p.ensures.each.1 five h w.if-five-lt-FEWER_PAIRS.false
-          ∙ five_suffice a.self.now.limits.lowest a.self.now.limits.highest p.result.now l p.ensures.each.0 p.ensures.each.1 a.self.now.service.number p.ensures.unused five (sym w.do_five_suffice.ensures ∙ w.if-do_five_suffice.true))
+          ∙ five_suffice a.self.now.limits.lowest a.self.now.limits.highest p.result.now l p.ensures.each.0 p.ensures.each.1 a.self.now.service.number p.ensures.unused five (sym w.five_suffice.ensures ∙ w.if-five_suffice.true))
     ]
 
 pub returns-clause-found : goal.returns-clause-found
