@@ -3,8 +3,7 @@ use Rattle.std.proofs.Common.{◌≡◌, ℕ, zero, suc, Bool, true, false, cond
 use Rattle.std.specs.Prelude.{ℤ}
 use Rattle.std.proofs.lemmas.List.{take-append-drop, map-append}
 use Rattle.offer_rules.specs.Offer.{Pair, is_blank, all_blank, filled_part, BlanksAfter}
-use Rattle.units.specs.Typed.{pair_of, typed}
-use Rattle.units.specs.Typed.{pairs_of}
+use Rattle.units.specs.Typed.{typed, pair_of, pairs_of}
 
 abbrev pub is_blank_at : List (List ℤ) → ℕ → Bool
 is_blank_at l i = is_blank (pair_of (typed (get_or l i [])))

@@ -1,5 +1,5 @@
 -- Laws of lent words as pairs, and of the merge, from the tenths of two runs to a step of it.
-pub mod Words
+pub mod Totals
 pub mod Blanks
 pub mod Runs
 pub mod Steps

@@ -11,8 +11,7 @@ use lib.ListN.{length, get_or, drop}
 use Rattle.offer_rules.specs.Numbers.{eq_z}
 use Rattle.offer_rules.specs.Offer.{Pair}
 use Rattle.offer_rules.specs.Gate.{tenths_of}
-use Rattle.units.specs.Typed.{typed, pair_of}
-use Rattle.units.specs.Typed.{pairs_of}
+use Rattle.units.specs.Typed.{typed, pair_of, pairs_of}
 use Rattle.gate.specs.Differing.{or_else, first_differing}
 use Rattle.gate.proofs.Runs.{cut, later, pass_shorter, pass_shorter_new, flip, uncut, none_left}
 

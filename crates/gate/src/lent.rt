@@ -6,6 +6,7 @@ use layout::offer;
 // "A held offer, which may be older": lent as the words of its pairs, price, quantity, price, quantity .., with blanks anywhere.
 #[derive(Clone, Copy, Debug, PartialEq, Eq)]
 pub struct Held<'a> {
+    // A slice: shorter ones may be asked, as the rule's are.
     pub words: &'a [i32],
     pub ghost at_most_ten: { length words.now ≤ 20 },
 }

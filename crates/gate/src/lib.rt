@@ -27,6 +27,7 @@ pub struct Window {
 // What a reason is held against: the facility's kind and outage window, and the three notices.
 #[derive(Clone, Copy, Debug, PartialEq, Eq)]
 pub struct Grounds {
+    // A word, as `admits` takes it.
     pub kind: i32,
     pub outage: Window,
     pub surplus: Window,
@@ -35,6 +36,7 @@ pub struct Grounds {
 }
 
 // A filing inside gate closure: the service and the period of its offer, and the reason that it gives.
+// Of any u8, and any period below 2³¹: layout's Service and Period would ask more of callers.
 #[derive(Clone, Copy, Debug, PartialEq, Eq)]
 pub struct Filing {
     pub service: u8,
@@ -85,51 +87,41 @@ fn count_to_last(pairs: &[[i32; 2]]) -> usize
         .map_or(0, |last| last + 1)
 }
 
-// Of a filed offer the pairs before its first blank, since "all non-blank pairs come first".
-#[tactic(auto, using(crate::proofs::Blanks::part_lent))]
-fn filed_walk(words: &[i32; offer::PAIR_WORDS]) -> Walk<'_>
-    requires { BlanksLast (pairs_in words.now) }
-    ensures { BlanksAfter (pairs_of result.pairs.now) (pairs_in words.now) }
-{
-    let pairs = pair_words(words);
-    let end = filled_count(pairs);
-    Walk {
-        pairs: &pairs[..end],
-    }
-}
-
-// A held offer "is still walked to its last pair", whatever blanks stand before that; those after it hold no tenths.
-#[tactic(auto, using(crate::proofs::Blanks::blanks_from))]
-fn held_walk(held: Held<'_>) -> Walk<'_>
-    ensures { BlanksAfter (pairs_of result.pairs.now) (pairs_in held.entry.words.now) }
-{
-    let pairs = pair_words(held.words);
-    let end = count_to_last(pairs);
-    Walk {
-        pairs: &pairs[..end],
-    }
-}
-
 impl<'a> Walk<'a> {
-    // No offer has no pairs.
-    #[tactic(auto, using(offer_rules::proofs::Blanks::whole), unfolding(offer_rules::specs::Offer::pairs_in))]
-    fn of_held(offer: Option<Held<'a>>) -> Walk<'a>
-        ensures { BlanksAfter (pairs_of result.pairs.now) (pairs_in (words_held offer.entry)) }
+    // Of a filed offer the pairs before its first blank, since "all non-blank pairs come first".
+    #[tactic(auto, using(crate::proofs::Blanks::part_lent))]
+    fn filed(words: &'a [i32; offer::PAIR_WORDS]) -> Walk<'a>
+        requires { BlanksLast (pairs_in words.now) }
+        ensures { BlanksAfter (pairs_of result.pairs.now) (pairs_in words.now) }
     {
-        match offer {
-            Some(held) => held_walk(held),
-            None => Walk { pairs: &[] },
+        let pairs = pair_words(words);
+        let end = filled_count(pairs);
+        Walk {
+            pairs: &pairs[..end],
         }
     }
 
+    // A held offer "is still walked to its last pair", whatever blanks stand before that; those after it hold no tenths.
+    #[tactic(auto, using(crate::proofs::Blanks::blanks_from))]
+    fn held(held: Held<'a>) -> Walk<'a>
+        ensures { BlanksAfter (pairs_of result.pairs.now) (pairs_in held.entry.words.now) }
+    {
+        let pairs = pair_words(held.words);
+        let end = count_to_last(pairs);
+        Walk {
+            pairs: &pairs[..end],
+        }
+    }
+
+    // No offer has no pairs.
     #[tactic(auto, using(offer_rules::proofs::Blanks::whole), unfolding(offer_rules::specs::Offer::pairs_in))]
     fn of(offer: Option<Offer<'a>>) -> Walk<'a>
         requires { IsLent offer }
         ensures { BlanksAfter (pairs_of result.pairs.now) (pairs_in (words_of offer.entry)) }
     {
         match offer {
-            Some(Offer::Filed(words)) => filed_walk(words),
-            Some(Offer::Held(held)) => held_walk(held),
+            Some(Offer::Filed(words)) => Walk::filed(words),
+            Some(Offer::Held(held)) => Walk::held(held),
             None => Walk { pairs: &[] },
         }
     }
@@ -152,7 +144,7 @@ fn differ(x: Pair, a: u64, y: Pair, b: u64) -> bool
 }
 
 impl Walk<'_> {
-    #[tactic(auto, using(crate::proofs::Words::total_from, crate::proofs::Words::total_at_end))]
+    #[tactic(auto, using(crate::proofs::Totals::total_from, crate::proofs::Totals::total_at_end))]
     fn total_tenths(self) -> u64
         ensures { (result ≡ total_tenths (pairs_of self.entry.pairs.now)) × (result ≤ 21474836480) }
     {
@@ -165,11 +157,12 @@ impl Walk<'_> {
 
     // The lowest n from 1 to the smaller total whose tenth differs in price.
     // A step passes the pair with fewer tenths left, a of old's or b of new's, or both where they are as many: an offer that only adds to old is walked through
-    // in as many steps as it has pairs.
+    // in as many steps as it has pairs. The tenth itself, where its caller asks if there is one: of it the proof says that each step keeps it.
     #[tactic(auto, using(crate::proofs::Steps::start_is_whole, crate::proofs::Steps::differing, crate::proofs::Steps::old_ended, crate::proofs::Steps::new_ended))]
     fn first_differing_tenth(self, new: Walk) -> Option<u64>
         ensures { result ≡ tenth_or_none (first_differing (pairs_of self.entry.pairs.now) (pairs_of new.entry.pairs.now)) }
     {
+        // The pairs left of each, and how many tenths of the first are passed: no struct, as the two of one would be taken apart at each step.
         let (mut old, mut old_used) = (self.pairs, 0);
         let (mut new, mut new_used) = (new.pairs, 0);
         let mut passed = 0;
@@ -219,21 +212,7 @@ fn admits_service(service: u8, reason: u8) -> bool
     }
 }
 
-// What a reason asks of the period.
-#[tactic(auto, unfolding(offer_rules::specs::Gate::period_covered))]
-fn is_period_covered(g: Grounds, filing: Filing) -> bool
-    ensures { result ≡ period_covered (grounds_of g) filing.period filing.reason }
-{
-    match filing.reason {
-        2 | 6 => g.outage.covers(filing),
-        3 => g.surplus.covers(filing),
-        4 => g.shortfall.covers(filing),
-        5 => g.status.covers(filing),
-        0 | 1 | 7..=255 => true,
-    }
-}
-
-// What it asks of the totals of old and new, for which every pair that is walked is read.
+// What a reason asks of the totals of old and new, for which every pair that is walked is read.
 #[tactic(auto, unfolding(offer_rules::specs::Gate::total_moved))]
 fn is_total_moved(reason: u8, old: Walk, new: Walk) -> bool
     ensures { result ≡ total_moved reason (total_tenths (pairs_of old.entry.pairs.now)) (total_tenths (pairs_of new.entry.pairs.now)) }
@@ -253,13 +232,29 @@ pub fn is_before_closure(clock: Minute, period: u64) -> bool
     clock.number + time::GATE_CLOSURE_MINUTES <= time::PERIOD_MINUTES * period
 }
 
-// "Inside that it needs a reason": what the one given asks of the kind, the service and the period.
-fn is_admitted(g: Grounds, filing: Filing) -> bool
-    ensures { result ≡ ((admits g.kind filing.reason && admits_service filing.service filing.reason) && period_covered (grounds_of g) filing.period filing.reason) }
-{
-    admits(g.kind, filing.reason)
-        && admits_service(filing.service, filing.reason)
-        && is_period_covered(g, filing)
+impl Grounds {
+    // What a reason asks of the period.
+    #[tactic(auto, unfolding(offer_rules::specs::Gate::period_covered))]
+    fn is_period_covered(self, filing: Filing) -> bool
+        ensures { result ≡ period_covered (grounds_of self) filing.period filing.reason }
+    {
+        match filing.reason {
+            2 | 6 => self.outage.covers(filing),
+            3 => self.surplus.covers(filing),
+            4 => self.shortfall.covers(filing),
+            5 => self.status.covers(filing),
+            0 | 1 | 7..=255 => true,
+        }
+    }
+
+    // "Inside that it needs a reason": what the one given asks of the kind, the service and the period.
+    fn is_admitted(self, filing: Filing) -> bool
+        ensures { result ≡ ((admits self.kind filing.reason && admits_service filing.service filing.reason) && period_covered (grounds_of self) filing.period filing.reason) }
+    {
+        admits(self.kind, filing.reason)
+            && admits_service(filing.service, filing.reason)
+            && self.is_period_covered(filing)
+    }
 }
 
 // Whether a filing inside gate closure is excepted, of a variation and of a standing offer over a held one. Old is the offer in force, if there is one. New is the
@@ -269,10 +264,10 @@ pub fn is_excepted(g: Grounds, filing: Filing, old: Option<Held>, new: Option<Of
     requires { IsLent new }
     ensures { result ≡ is_excepted (grounds_of g) filing.service filing.period filing.reason (pairs_in (words_held old.entry)) (pairs_in (words_of new.entry)) }
 {
-    if !is_admitted(g, filing) {
+    if !g.is_admitted(filing) {
         return false;
     }
-    let before = Walk::of_held(old);
+    let before = Walk::of(old.map(Offer::Held));
     let after = Walk::of(new);
     is_total_moved(filing.reason, before, after) && before.same_prices(after)
 }
