@@ -31,7 +31,6 @@ years_by_fours n h = agree by_fours days_of_years 77 fours_agree n h
 
 -- The year of a day, and what is left of the day in it.
 record InYear (n k : ℕ) : Type 0 where
-  at_most : k ≤ 75
   is_year : k ≡ years_before n
   has_begun : days_of_years k ≤ n
   has_not_ended : n < days_of_years k + year_days (is_leap (first_year + k))
@@ -43,7 +42,6 @@ year_found n h =
     let begun : days_of_years k ≤ n = rw (sym (years_by_fours k (omega arith))) (omega arith) in
     let next : n < days_of_years (suc k) = rw (sym (years_by_fours (suc k) (omega arith))) (omega arith) in
     record {
-      at_most = most;
       is_year = sym (none_other days_of_years years_rise 75 n k most begun next);
       has_begun = begun;
       has_not_ended = rw year_more at next;

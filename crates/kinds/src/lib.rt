@@ -79,13 +79,13 @@ fn kind_row(word: i32) -> Row
             offers: Range { first: 0, last: 0 },
             marks: Range { first: 0, last: 0 },
             reasons: Range { first: 3, last: 5 }, // "1, 2 and 6 are not"
-            longest_outage: 0,
+            longest_outage: 0, // and not None: no count is from 1 to 0
             proportion_tested: false,
         },
         // no kind: what is asked of any kind; calls draw 5 of it, or in call 2 the kind's own 8
         Err(_) => Row {
             offers: Range { first: 0, last: 4 },
-            marks: Range { first: 1, last: 0 },
+            marks: Range { first: 1, last: 0 }, // and not None: no service is from 1 to 0
             reasons: Range { first: 3, last: 5 },
             longest_outage: 3,
             proportion_tested: false,
@@ -93,7 +93,7 @@ fn kind_row(word: i32) -> Row
     }
 }
 
-// A column each, under the name of the rule's word that its callers' contracts cite.
+// A column each, under the name of the rule's word that its callers' contracts cite; of a word and not of a Kind: the rule has a row for an unknown one too.
 
 // 5 and 8.
 #[tactic(auto, unfolding(offer_rules::specs::Kinds::kind_row))]

@@ -1,10 +1,10 @@
 // Document 01, "Who draws which number": 5 to 9, from values that the book hands over.
-// A facility's capability is 17 words W0 to W16. A bound stands beside a number's equation for callers that don't unfold the rule.
+// A facility's capability is an array of 17 words W0 to W16: it is read where it stands in the book, or as a record has sent it, and layout names its places.
+// A bound stands beside a number's equation for callers that don't unfold the rule.
 // Narrowing stays `as`, proved to lose nothing: a `try_from` would be tested as it runs.
 #![tactic(auto)]
 
-ghost use Rattle.std.specs.Prelude.{◌≡◌, not, ◌&&◌, ◌||◌, ◌≤◌, fold, false};
-ghost use Rattle.std.specs.List.{range_with_len};
+ghost use Rattle.std.specs.Prelude.{◌≡◌, not, ◌&&◌, ◌||◌, ◌≤◌};
 ghost use Rattle.offer_rules.specs.Numbers.{to_nat};
 ghost use Rattle.offer_rules.specs.Kinds.{is_in};
 ghost use Rattle.layout.specs.Refusal.{drawn};
@@ -21,7 +21,7 @@ const MOST_PROPORTION: i32 = 1000;
 
 // ---- 5: the facility's kind
 
-// "facility has kind neither 1 nor 2 in the book", nor 3.
+// "facility has kind neither 1 nor 2 in the book", nor 3. The Kind isn't handed on: what is asked of it later is asked of the word, where it stands.
 #[tactic(auto, unfolding(book_rules::specs::Refusals::facility_number, book_rules::specs::Refusals::has_kind, offer_rules::specs::Kinds::kind_row, offer_rules::specs::Numbers::draw))]
 pub fn check_kind(capability: &[i32; facility::CAPABILITY]) -> Result<(), Refusal>
     ensures number { drawn result ≡ facility_number capability.now }
@@ -64,7 +64,7 @@ pub fn check_outage(
     refuse_if(minute_beyond | count_beyond, Refusal::Notice)
 }
 
-// "Its window is m div 30 + 1 to m div 30 + n."
+// "Its window is m div 30 + 1 to m div 30 + n." Two words, as the book stores them.
 #[tactic(auto, unfolding(book_rules::specs::Book::outage_words))]
 pub fn outage_window(minute: i32, count: i32) -> [i32; 2]
     requires { to_nat count ≤ 48 }
@@ -143,7 +143,7 @@ fn is_mark_astray(sent: &[i32; facility::CAPABILITY], allowed: Range, service: S
 }
 
 // "load with mark 0 or 4 set"; of a link "mark 0 only".
-// `ENERGY..=REGULATION` was tried: std has no law of the items that such a range gives, and the proof didn't close.
+// `ENERGY..=REGULATION` was tried: std has no law of the items that such a range gives, and the proof didn't close. Asked of all without a branch, by a fold and not `any`.
 fn any_mark_astray(sent: &[i32; facility::CAPABILITY]) -> bool
     ensures { result ≡ any_mark_astray sent.now 5 }
 {
