@@ -62,8 +62,7 @@ impl<'a> Cell<'a> {
     pub fn pairs(&self) -> &'a [i32; offer::PAIR_WORDS]
         ensures { result.now ≡ drop 3 (held_by self.now).offer }
     {
-        let words = self.words;
-        words.last_chunk::<{ offer::PAIR_WORDS }>().unwrap()
+        words_of_pairs(self.words)
     }
 
     // "its ten quantities added"

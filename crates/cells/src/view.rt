@@ -4,7 +4,7 @@ ghost use Rattle.std.specs.Prelude.{◌≡◌, ◌≤◌, ◌<◌};
 ghost use Rattle.book_rules.specs.Force.{in_force};
 ghost use Rattle.book_rules.specs.Refusals.{total_reply};
 ghost use Rattle.book_rules.specs.Book.{cell_in, held, book_view};
-ghost use Rattle.cells.specs.Meaning.{Sized};
+ghost use Rattle.cells.specs.Meaning.{Sized, half_number, held_in, meaning, answer_of};
 
 use crate::answers::Answer;
 use crate::held::Cell;
@@ -21,8 +21,6 @@ pub struct PlaceCells<'a> {
 }
 
 impl<'a> PlaceCells<'a> {
-    ghost use Rattle.cells.specs.Meaning.{half_number, held_in, meaning};
-
     // The cell, where it has this stamp.
     #[tactic(auto, using(std::proofs::lemmas::List::take_rest), unfolding(book_rules::specs::Words::part, book_rules::specs::Book::held))]
     fn held(&self, half: Half, slot: Slot, stamp: Stamp) -> Option<Cell<'a>>
@@ -68,8 +66,6 @@ pub struct Cells<'a> {
 }
 
 impl<'a> Cells<'a> {
-    ghost use Rattle.cells.specs.Meaning.{answer_of};
-
     // "word 0 counts facilities with an offer in force, other words zero; sum over them"
     #[tactic(auto, unfolding(book_rules::specs::Force::count_in_force, book_rules::specs::Force::sum_in_force, book_rules::specs::Force::totalled, book_rules::specs::Refusals::total_reply, book_rules::specs::Book::book_view))]
     pub fn total(&self, s: usize, period: Period) -> Answer

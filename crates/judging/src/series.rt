@@ -16,13 +16,13 @@ ghost use Rattle.cells.specs.Meaning.{held_by};
 ghost use Rattle.judging.specs.Usable.{Usable};
 
 use crate::facility::Facility;
-use cells::Cell;
+use cells::{Cell, Place, PlaceCells};
 use gate::{Filing, Held, Offer};
 use layout::{Period, Refusal, Service, Slot, fields, offer, refuse_if};
 use offers::{Passed, is_slot_refused};
 use units::nat;
 
-// 10 of a standing offer's slot.
+// 10 of a standing offer's slot. Not Slot's TryFrom: Slot stands in layout, below offers, where 10 is proved.
 #[tactic(auto, using(layout::proofs::Chains::draw_most, crate::proofs::Near::in_week))]
 fn check_slot(slot: i32) -> Result<Slot, Refusal>
     ensures number { drawn result ≡ draw (slot_refused slot) 10 }
@@ -55,6 +55,27 @@ impl<'a> Series<'a> {
             service: Service {
                 number: bytes[fields::SERVICE],
             },
+        }
+    }
+
+    // Where its cells stand.
+    pub fn place(&self) -> Place
+        ensures sizes { (result.sizes.facilities ≡ facilities_in self.now.facility.book.words.now) × (result.sizes.services ≡ services_in self.now.facility.book.words.now) }
+        ensures place { (result.f ≡ self.now.facility.f) × (result.s ≡ self.now.service.number) }
+    {
+        Place {
+            sizes: self.facility.book.sizes(),
+            f: self.facility.f,
+            s: self.service.place(),
+        }
+    }
+
+    pub fn cells(&self) -> PlaceCells<'a>
+        ensures { (result.words.now ≡ self.now.facility.book.words.now) × (result.place.f ≡ self.now.facility.f) × (result.place.s ≡ self.now.service.number) }
+    {
+        PlaceCells {
+            words: self.facility.book.words,
+            place: self.place(),
         }
     }
 
@@ -119,8 +140,7 @@ impl<'a> Series<'a> {
     fn before(&self, period: Period) -> Option<Held<'a>>
         ensures { pairs_in (words_held result) ≡ pairs_of (in_force (book_view self.now.facility.book.words.now) self.now.facility.f self.now.service.number period.number) }
     {
-        let cells = self.facility.book.cells();
-        let old = cells.in_force(self.facility.f, self.service.place(), period);
+        let old = self.cells().in_force(period);
         old.map(|old| Held { words: old.pairs() })
     }
 
@@ -133,8 +153,7 @@ impl<'a> Series<'a> {
         if !filed.is_all_blank() {
             return Some(Offer::Filed(filed.pairs()));
         }
-        let cells = self.facility.book.cells();
-        let held = cells.held_standing(self.facility.f, self.service.place(), period.slot());
+        let held = self.cells().held_standing(period.slot());
         held.map(|held| Offer::Held(Held {
             words: held.pairs(),
         }))
@@ -195,8 +214,7 @@ impl<'a> Series<'a> {
         ensures number { drawn result ≡ revision_number (to_nat (word self.now.facility.book.words.now clock_place)) (grounds (book_view self.now.facility.book.words.now) self.now.facility.f) self.now.service.number slot.number filed.entry.reason ((book_view self.now.facility.book.words.now).standing self.now.facility.f self.now.service.number slot.number) filed.entry.offer.now }
         ensures bound { drawn result ≤ 18 }
     {
-        let cells = self.facility.book.cells();
-        let Some(held) = cells.held_standing(self.facility.f, self.service.place(), slot) else {
+        let Some(held) = self.cells().held_standing(slot) else {
             return Ok(());
         };
         self.check_standing_gate(slot, held, filed)?;

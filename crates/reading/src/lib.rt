@@ -13,7 +13,7 @@ ghost use Rattle.judging.specs.Tested.{Tested, Place};
 
 use cells::{Answer, InForce};
 use judging::{Book, Series};
-use layout::{Refusal, fields};
+use layout::{Refusal, Service, fields};
 use record::{Record, period_word};
 
 // 5, 10 and 19; the offer in force.
@@ -25,8 +25,7 @@ fn asked<'a>(series: Series<'a>, period: i32) -> Result<InForce<'a>, Refusal>
     let book = series.facility.book;
     series.facility.check_kind()?;
     let period = book.check_period(period)?;
-    let s = series.service.place();
-    let offer = book.cells().in_force(series.facility.f, s, period);
+    let offer = series.cells().in_force(period);
     offer.ok_or(Refusal::NothingInForce)
 }
 
@@ -46,7 +45,9 @@ pub fn total_call(book: &[i32], bytes: &Record) -> Result<Answer, Refusal>
     ensures { answered result ≡ book_answer book.now bytes.now }
 {
     let book = Book { words: book };
-    let service = usize::from(bytes[fields::SERVICE]);
+    let service = Service {
+        number: bytes[fields::SERVICE],
+    };
     let period = book.check_period(period_word(bytes))?;
-    Ok(book.cells().total(service, period))
+    Ok(book.cells().total(service.place(), period))
 }

@@ -2,22 +2,23 @@
 // Each is refused and writes nothing, or writes what it files. The book is the `&mut [i32]` that document 01 names, so what has been tested of it is asked for, in one word a call.
 #![tactic(auto)]
 
-ghost use Rattle.std.specs.Prelude.{◌≡◌, true, ◌≤◌, ◌<◌};
+ghost use Rattle.std.specs.Prelude.{◌≡◌, true};
 ghost use Rattle.offer_rules.specs.Numbers.{to_nat, word};
 ghost use Rattle.offer_rules.specs.Time.{slot_refused, period_refused};
-ghost use Rattle.offer_rules.specs.Offer.{accepted_at};
 ghost use Rattle.layout.specs.Refusal.{drawn};
 ghost use Rattle.book_rules.specs.Record.{call_of, period_word};
-ghost use Rattle.book_rules.specs.Words.{clock_place, cell, ramps_fit};
+ghost use Rattle.book_rules.specs.Words.{clock_place, ramps_fit};
 ghost use Rattle.book_rules.specs.Force.{plain};
-ghost use Rattle.book_rules.specs.Book.{facilities_in, services_in, write_cell, file_standing, file_variation, book_answer, book_after};
-ghost use Rattle.cells.specs.Meaning.{half_number};
+ghost use Rattle.book_rules.specs.Book.{file_standing, file_variation, book_answer, book_after};
+ghost use Rattle.cells.specs.Meaning.{Sized};
 ghost use Rattle.judging.specs.Usable.{Usable};
 ghost use Rattle.judging.specs.Tested as tested;
 
-use cells::{CellPlace, Filing, Half, store_offer, store_words};
+use cells::{CellPlace, Filing, Half, Place, store_offer, store_words};
 use judging::{Book, Facility, Series};
-use layout::{Minute, Period, Refusal, Slot, cell, facility, fields, head, offer, refuse_if, time};
+use layout::{
+    Minute, Period, Refusal, Slot, Stamp, facility, fields, head, offer, refuse_if, time,
+};
 use offers::Passed;
 use record::{Record, capability_in, period_word, read_offer, word_at};
 
@@ -46,7 +47,8 @@ fn file_capability(book: &mut [i32], bytes: &Record) -> Result<(), Refusal>
     Ok(())
 }
 
-// The kind, which alone is held against the book, is tested before the other words are read.
+// The kind, which alone is held against the book, is tested before the other words are read from the bytes, which takes longer than the rest
+// of such a call (docs/DECISIONS.md, "Forms and code" 7). It is tested twice: check_capability is 8 as a whole.
 pub fn capability_call(book: &mut [i32], bytes: &Record) -> Result<(), Refusal>
     requires { tested.Facility book.old bytes.now 2 }
     ensures { (plain (drawn result) ≡ book_answer book.old bytes.now) × (book.new ≡ book_after book.old bytes.now) }
@@ -61,25 +63,17 @@ pub fn capability_call(book: &mut [i32], bytes: &Record) -> Result<(), Refusal>
 }
 
 // Files an offer in its cell.
-fn file_offer(book: &mut [i32], place: CellPlace, filing: Filing<'_>)
-    requires { Usable book.old × (place.f < facilities_in book.old) × (place.s < services_in book.old) }
-    ensures { book.new ≡ write_cell book.old place.f place.s (half_number place.half) place.slot.number (cell filing.entry.stamp (accepted_at filing.entry.minute.number filing.entry.offer.now)) }
-{
-    let sizes = Book { words: book }.sizes();
-    store_offer(book, sizes, place, filing);
-}
-
-fn file_standing(book: &mut [i32], f: usize, s: usize, slot: Slot, offer: &[i32; offer::WORDS])
-    requires { Usable book.old × (f < facilities_in book.old) × (s < services_in book.old) × (ramps_fit offer.now ≡ true) }
-    ensures { book.new ≡ file_standing book.old f s slot.number offer.now }
+fn file_standing(book: &mut [i32], place: Place, slot: Slot, offer: &[i32; offer::WORDS])
+    requires { Usable book.old × Sized book.old place.sizes.facilities place.sizes.services × (ramps_fit offer.now ≡ true) }
+    ensures { book.new ≡ file_standing book.old place.f place.s slot.number offer.now }
 {
     let filing = Filing {
-        stamp: cell::STANDING_STAMP,
+        stamp: Stamp::STANDING,
         minute: Book { words: book }.clock(),
         offer,
     };
     let half = Half::Standing;
-    file_offer(book, CellPlace { f, s, half, slot }, filing);
+    store_offer(book, CellPlace { place, half, slot }, filing);
 }
 
 // 11 to 18 of a standing offer that is admitted; files one cell.
@@ -92,13 +86,13 @@ fn stand(book: &mut [i32], bytes: &Record, slot: Slot) -> Result<(), Refusal>
     read_offer(bytes, &mut offer);
     let series = Series::named(book, bytes);
     series.check_standing(slot, bytes[fields::REASON], &offer)?;
-    let f = series.facility.f;
-    let s = series.service.place();
-    file_standing(book, f, s, slot, &offer);
+    let place = series.place();
+    file_standing(book, place, slot, &offer);
     Ok(())
 }
 
 // 5, 9 and 10 are drawn before the offer is read from the bytes, which takes longer than the rest of such a call.
+// Two functions, this and variation_call: a slot and a period differ in test, gate and cell.
 pub fn standing_call(book: &mut [i32], bytes: &Record) -> Result<(), Refusal>
     requires { tested.Place book.old bytes.now 3 }
     ensures { (plain (drawn result) ≡ book_answer book.old bytes.now) × (book.new ≡ book_after book.old bytes.now) }
@@ -109,29 +103,29 @@ pub fn standing_call(book: &mut [i32], bytes: &Record) -> Result<(), Refusal>
 }
 
 // Where its pairs are all blank, "Its cell becomes 24 zeros." "The slot of P is P mod 336."
-fn file_variation(book: &mut [i32], f: usize, s: usize, period: Period, filed: Passed<'_>)
-    requires { Usable book.old × (f < facilities_in book.old) × (s < services_in book.old) × (ramps_fit filed.offer.now ≡ true) }
-    ensures { book.new ≡ file_variation book.old f s period.number filed.entry.offer.now }
+fn file_variation(book: &mut [i32], place: Place, period: Period, filed: Passed<'_>)
+    requires { Usable book.old × Sized book.old place.sizes.facilities place.sizes.services × (ramps_fit filed.offer.now ≡ true) }
+    ensures { book.new ≡ file_variation book.old place.f place.s period.number filed.entry.offer.now }
 {
     let half = Half::Variation;
     let slot = period.slot();
-    let place = CellPlace { f, s, half, slot };
+    let at = CellPlace { place, half, slot };
     let stamp = period.stamp();
     if filed.is_all_blank() {
         let none = [0i32; offer::WORDS];
         let filing = Filing {
-            stamp: cell::EMPTY_STAMP,
+            stamp: Stamp::EMPTY,
             minute: Minute { number: 0 },
             offer: &none,
         };
-        return file_offer(book, place, filing);
+        return store_offer(book, at, filing);
     }
     let filing = Filing {
         stamp,
         minute: Book { words: book }.clock(),
         offer: filed.offer,
     };
-    file_offer(book, place, filing);
+    store_offer(book, at, filing);
 }
 
 // 11 to 17 of a variation that is admitted; files one cell.
@@ -145,9 +139,8 @@ fn vary(book: &mut [i32], bytes: &Record, period: Period) -> Result<(), Refusal>
     let series = Series::named(book, bytes);
     let filed = series.check_offer(bytes[fields::REASON], &offer)?;
     series.check_variation_gate(period, filed)?;
-    let f = series.facility.f;
-    let s = series.service.place();
-    file_variation(book, f, s, period, filed);
+    let place = series.place();
+    file_variation(book, place, period, filed);
     Ok(())
 }
 

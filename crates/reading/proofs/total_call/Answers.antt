@@ -6,7 +6,7 @@ use Rattle.reading.proofs.total_call.Goals as goal
 pub returns : goal.returns
 returns c =
     let period = handed_on c.period_word.type_inv c.period_word.ensures in
-    total_answered c.args.book.now c.args.bytes.now c.requires.0 c.requires.1 period _ c.in_ok-period.ensures.number c.cells.ensures.0 c.from-service.ensures c.in_ok-period.ensures.period c.total.ensures
+    total_answered c.args.book.now c.args.bytes.now c.requires.0 c.requires.1 period _ c.in_ok-period.ensures.number c.cells.ensures.0 c.place.ensures.0 c.in_ok-period.ensures.period c.total.ensures
 
 pub returns-in_err-period : goal.returns-in_err-period
 returns-in_err-period c =

@@ -29,8 +29,8 @@ file_standing-requires c =
     let p = c.requires.admitted.place in
     let n = c.named-series.ensures in
     let passed = rw (n.0, n.1, n.2, c.requires.slot, c.read_offer.ensures) at c.in_ok-check_standing.ensures.number in
-    rw (n.1, c.place-s.ensures.0, n.2, c.read_offer.ensures)
-    (p.tested.usable, p.facility_in, p.service_in, standing_ramps w b p.tested p.call_is (to_nat (period_word b)) passed)
+    rw c.read_offer.ensures
+    (p.tested.usable, rw (c.place-place.ensures.sizes.0, c.place-place.ensures.sizes.1, n.0) p.tested.usable.sized, standing_ramps w b p.tested p.call_is (to_nat (period_word b)) passed)
 
 pub returns : goal.returns
 returns c =
@@ -41,4 +41,4 @@ returns c =
     let passed = rw (n.0, n.1, n.2, c.requires.slot, c.read_offer.ensures) at c.in_ok-check_standing.ensures.number in
     filed w b p.tested 3 p.call_is (omega arith) (by_next _ _ (standing_parts w b p.call_is) (sym c.requires.admitted.is_admitted) passed)
     c.file_standing.new.book
-    (c.file_standing.ensures ∙ rw (n.1, c.place-s.ensures.0, n.2, c.requires.slot, c.read_offer.ensures) (sym (accept_standing w b p.call_is)))
+    (c.file_standing.ensures ∙ rw (c.place-place.ensures.place.0, c.place-place.ensures.place.1, n.1, n.2, c.requires.slot, c.read_offer.ensures) (sym (accept_standing w b p.call_is)))

@@ -40,8 +40,8 @@ file_variation-requires c =
     let n = c.named-series.ensures in
     let passed = rw (n.0, n.1, n.2, c.read_offer.ensures) at c.in_ok-filed.ensures.number in
     let k = c.in_ok-filed.ensures.passed in
-    rw (n.1, c.place-s.ensures.0, n.2, k.1, c.read_offer.ensures)
-    (p.tested.usable, p.facility_in, p.service_in, variation_ramps w b p.tested p.call_is passed)
+    rw (k.1, c.read_offer.ensures)
+    (p.tested.usable, rw (c.place-place.ensures.sizes.0, c.place-place.ensures.sizes.1, n.0) p.tested.usable.sized, variation_ramps w b p.tested p.call_is passed)
 
 pub returns : goal.returns
 returns c =
@@ -54,4 +54,4 @@ returns c =
     let gate = rw (n.0, n.1, n.2, c.requires.period, k.0, k.1, c.read_offer.ensures) at c.in_ok-check_variation_gate.ensures.number in
     filed w b p.tested 4 p.call_is (omega arith) (by_next _ _ (admitted_parts w b p.call_is c.requires.admitted.is_admitted) passed gate)
     c.file_variation.new.book
-    (c.file_variation.ensures ∙ rw (n.1, c.place-s.ensures.0, n.2, c.requires.period, k.1, c.read_offer.ensures) (sym (accept_variation w b p.call_is)))
+    (c.file_variation.ensures ∙ rw (c.place-place.ensures.place.0, c.place-place.ensures.place.1, n.1, n.2, c.requires.period, k.1, c.read_offer.ensures) (sym (accept_variation w b p.call_is)))
