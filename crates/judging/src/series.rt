@@ -1,9 +1,10 @@
 // A facility's offers for one service.
 // `nat(..) as usize` loses nothing: of u64 and usize there is no From.
-ghost use Rattle.std.specs.Prelude.{◌≡◌, ◌≤◌, ◌<◌, IfOk};
+ghost use Rattle.std.specs.Prelude.{◌≡◌, true, false, ◌≤◌, ◌<◌, IfOk, IfSome, IfNone};
 ghost use Rattle.offer_rules.specs.Numbers.{to_nat, word, draw, ◌then◌};
 ghost use Rattle.offer_rules.specs.Time.{slot_refused, period_refused, next_period};
 ghost use Rattle.offer_rules.specs.Offer.{pairs_in, pairs, offer_number};
+ghost use Rattle.offer_rules.specs.Gate.{is_open};
 ghost use Rattle.layout.specs.Refusal.{drawn};
 ghost use Rattle.book_rules.specs.Record.{facility_of, service_of};
 ghost use Rattle.book_rules.specs.Words.{part, clock_place, limits_place, facility_place};
@@ -154,9 +155,26 @@ impl<'a> Series<'a> {
             return Some(Offer::Filed(filed.pairs()));
         }
         let held = self.cells().held_standing(period.slot());
-        held.map(|held| Offer::Held(Held {
-            words: held.pairs(),
-        }))
+        held.map(|held| {
+            let words = held.pairs();
+            Offer::Held(Held { words })
+        })
+    }
+
+    // A filing for this period, where it is one inside gate closure.
+    fn filing_inside(&self, period: Period, reason: u8) -> Option<Filing>
+        ensures open { IfNone result (is_open (to_nat (word self.now.facility.book.words.now clock_place)) period.number ≡ true) }
+        ensures shut { IfSome result (λ filing. is_open (to_nat (word self.now.facility.book.words.now clock_place)) period.number ≡ false) }
+        ensures filing { IfSome result (λ filing. (filing.service ≡ self.now.service.number) × (filing.period ≡ period.number) × (filing.reason ≡ reason)) }
+    {
+        if self.facility.book.is_before_closure(period) {
+            return None;
+        }
+        Some(Filing {
+            service: self.service.number,
+            period: period.number,
+            reason,
+        })
     }
 
     // 17 of a variation. Before closure, where most are filed, no offer is looked up.
@@ -166,13 +184,8 @@ impl<'a> Series<'a> {
         ensures number { drawn result ≡ gate_number (to_nat (word self.now.facility.book.words.now clock_place)) (grounds (book_view self.now.facility.book.words.now) self.now.facility.f) self.now.service.number period.number filed.entry.reason (pairs_of (in_force (book_view self.now.facility.book.words.now) self.now.facility.f self.now.service.number period.number)) (pairs_of (will_stand (book_view self.now.facility.book.words.now) self.now.facility.f self.now.service.number period.number filed.entry.offer.now)) }
         ensures bound { drawn result ≤ 17 }
     {
-        if self.facility.book.is_before_closure(period) {
+        let Some(filing) = self.filing_inside(period, filed.reason) else {
             return Ok(());
-        }
-        let filing = Filing {
-            service: self.service.number,
-            period: period.number,
-            reason: filed.reason,
         };
         let old = self.before(period);
         let new = self.afterwards(period, filed);
@@ -193,17 +206,11 @@ impl<'a> Series<'a> {
         ensures bound { drawn result ≤ 17 }
     {
         let next = self.facility.book.next_period(slot);
-        if self.facility.book.is_before_closure(next) {
+        let Some(filing) = self.filing_inside(next, filed.reason) else {
             return Ok(());
-        }
-        let filing = Filing {
-            service: self.service.number,
-            period: next.number,
-            reason: filed.reason,
         };
-        let old = Some(Held {
-            words: held.pairs(),
-        });
+        let words = held.pairs();
+        let old = Some(Held { words });
         let new = Some(Offer::Filed(filed.pairs()));
         self.facility.check_gate(filing, old, new)
     }
