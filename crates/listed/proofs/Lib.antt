@@ -1,4 +1,3 @@
 -- Laws that the proofs of the code share, and the proofs of the claims in specs/.
 pub mod OneMoreRecord
 pub mod AnswerWidth
-pub mod OneByOne
