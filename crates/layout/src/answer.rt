@@ -7,6 +7,7 @@ pub const WORDS: usize = 24;
 // Of a look-up; of a total "word 0 counts facilities with an offer in force".
 pub const FIRST: usize = 0;
 
+// Numbers, as a look-up's word 0 is one.
 pub const STANDING: i32 = 1;
 
 pub const VARIATION: i32 = 2;

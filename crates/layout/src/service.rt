@@ -2,7 +2,7 @@
 ghost use Rattle.std.specs.Prelude.{◌≡◌, ◌≤◌, eqb};
 ghost use Rattle.offer_rules.specs.Offer.{is_reserve};
 
-// As numbers too, since byte 7 may be any.
+// Numbers, since byte 7 may be any.
 pub const ENERGY: u8 = 0;
 
 pub const PRIMARY_RESERVE: u8 = 1;
