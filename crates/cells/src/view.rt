@@ -1,6 +1,6 @@
 // The cells of a book: what is looked up and added.
 // `as` makes a count signed, and loses nothing: facilities are at most 64.
-ghost use Rattle.std.specs.Prelude.{◌≡◌, ◌≤◌, ◌<◌};
+ghost use Rattle.std.specs.Prelude.{◌≡◌, ◌<◌};
 ghost use Rattle.book_rules.specs.Force.{in_force};
 ghost use Rattle.book_rules.specs.Refusals.{total_reply};
 ghost use Rattle.book_rules.specs.Book.{cell_in, held, book_view};
