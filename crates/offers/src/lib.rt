@@ -75,7 +75,8 @@ fn judge(
     )
 }
 
-// The offer where none applies. Its reason and its words are two parameters, as a record has them apart: what has passed both is a Passed. In line over `judge`, which returns in a register what a call out of line would store and read again.
+// The offer where none applies. Its reason and its words are two parameters, as a record has them apart: what has passed both is a Passed.
+// In line over `judge`, which returns in a register what a call out of line would store and read again.
 #[inline(always)]
 pub fn check_offer<'a>(
     limits: &[i32; head::LIMIT_COUNT],

@@ -143,7 +143,8 @@ fn is_mark_astray(sent: &[i32; facility::CAPABILITY], allowed: Range, service: S
 }
 
 // "load with mark 0 or 4 set"; of a link "mark 0 only".
-// `ENERGY..=REGULATION` was tried: std has no law of the items that such a range gives, and the proof didn't close. Asked of all without a branch, by a fold and not `any`.
+// Asked of all without a branch, by a fold and not `any`.
+// `ENERGY..=REGULATION` was tried: std has no law of the items that such a range gives, and the proof didn't close.
 fn any_mark_astray(sent: &[i32; facility::CAPABILITY]) -> bool
     ensures { result ≡ any_mark_astray sent.now 5 }
 {
