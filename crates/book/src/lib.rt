@@ -30,7 +30,7 @@ fn tested<'a>(book: &[i32], bytes: &'a [u8]) -> Result<&'a Record, Refusal>
 }
 
 // One call, for all words and bytes: 1 to 4, then the call's own. "Byte 5 selects among nine calls"; refusal 2 leaves no other.
-// Each case returns its answer itself: answers that meet in a local are copied from there to the caller's 112 bytes.
+// Each case returns its answer itself, so that one that reads is written straight into the caller's 112 bytes.
 pub fn call(book: &mut [i32], bytes: &[u8]) -> Answer
     ensures { (answer_of result ≡ book_answer book.old bytes.now) × (book.new ≡ book_after book.old bytes.now) }
 {

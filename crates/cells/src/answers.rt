@@ -15,7 +15,7 @@ pub struct Answer {
     pub sum: i64,
 }
 
-// "Otherwise words and sum are zero."
+// "Otherwise words and sum are zero." Of any number: what is drawn becomes an answer by From, below.
 #[tactic(auto, unfolding(book_rules::specs::Force::plain))]
 pub fn plain(number: u32) -> Answer
     ensures { answer_of result ≡ plain number }

@@ -1,5 +1,5 @@
-// A cell: its words are decoded here, and stores' write_cell encodes them; nothing else knows their order.
-// `as` narrows a stamp and loses nothing, which is proved; a `try_from` would be tested as it runs.
+// A cell: its words are decoded here, and stores' write_cell encodes them; nothing else knows their order, but that the pairs come last.
+// `as` makes a stamp signed and loses nothing, which is proved; a `try_from` would be tested as it runs.
 ghost use Rattle.std.specs.Prelude.{◌≡◌, ◌≤◌, pos, nat_abs, drop};
 ghost use Rattle.offer_rules.specs.Numbers.{eq_z};
 ghost use Rattle.offer_rules.specs.Offer.{proportion, ramp_up, ramp_down, pairs, sum_of};

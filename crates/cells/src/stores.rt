@@ -1,5 +1,5 @@
 // What an accepted call writes in the book.
-// `as` narrows a stamp and a minute, and loses nothing, which is proved; a `try_from` would be tested as it runs.
+// `as` makes a stamp and a minute words, and loses nothing, which is proved; a `try_from` would be tested as it runs.
 ghost use Rattle.std.specs.Prelude.{◌≡◌, false, ◌+◌, ◌≤◌, pos, length};
 ghost use Rattle.offer_rules.specs.Numbers.{beyond};
 ghost use Rattle.offer_rules.specs.Offer.{accepted_at, most_ramp};
@@ -48,7 +48,8 @@ pub fn store_offer(book: &mut [i32], at: CellPlace, filing: Filing<'_>)
 }
 
 // "Other accepted calls write only the fields they carry." Word by word, of which one, two or 17 become single stores:
-// copy_from_slice also tests whether the two overlap, and reads back what was just written to a local.
+// copy_from_slice also tests whether the two overlap, and reads back what was just written to a local. By places, as of what is written through
+// `iter_mut` it isn't known what the book ends as.
 pub fn store_words(book: &mut [i32], at: usize, words: &[i32])
     requires { at + length words.now ≤ length book.old }
     ensures { book.new ≡ put book.old at words.now }

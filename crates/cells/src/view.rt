@@ -57,7 +57,7 @@ impl<'a> PlaceCells<'a> {
     }
 }
 
-// A book's words, and F and S as they hold them: a total goes through the cells of every facility.
+// A book's words, and F and S as they hold them: a total goes through the cells of every facility. Below judging's Book, which makes it.
 #[derive(Clone, Copy, Debug, PartialEq, Eq)]
 pub struct Cells<'a> {
     pub words: &'a [i32],

@@ -74,6 +74,7 @@ impl<'a> Book<'a> {
             .unwrap()
     }
 
+    // The window at a place, as the rule's `part at 2`.
     #[tactic(auto, using(units::proofs::Counts::word_back, crate::proofs::Lent::window_words))]
     pub(crate) fn window_at(&self, at: usize) -> Window
         requires { at + 2 ≤ length self.now.words.now }

@@ -4,7 +4,7 @@ use crate::offer;
 // "24 words"
 pub const WORDS: usize = 24;
 
-// Of a look-up; of a total "word 0 counts facilities with an offer in force".
+// Word 0: of a look-up what was found, of a total how many facilities have "an offer in force".
 pub const FIRST: usize = 0;
 
 // Numbers, as a look-up's word 0 is one.

@@ -1,4 +1,4 @@
-// Document 01's places, widths and numbers, each said once in code: the words of a book, the bytes of a record, services, slots, minutes,
+// Document 01's places, widths and numbers that more than one crate needs, each said once in code: the words of a book, the bytes of a record, services, slots, minutes,
 // and who draws which number. The rule's own text of them is in offer_rules and book_rules; a contract that is met shows that both agree.
 #![tactic(auto)]
 

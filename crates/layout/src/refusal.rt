@@ -87,7 +87,7 @@ pub fn refuse_if(applies: bool, refusal: Refusal) -> Result<(), Refusal>
     if applies { Err(refusal) } else { Ok(()) }
 }
 
-// The number that a test or a call returns: 0 where it isn't refused.
+// The number that a test or a call returns: 0 where it isn't refused. No `From`, as neither type is of this crate.
 pub fn drawn(outcome: Result<(), Refusal>) -> u32
     ensures { (result ≡ drawn outcome) × (result ≤ 21) }
 {

@@ -36,7 +36,7 @@ fn put_next<I: Integer>(out: &mut Printed, n: I)
     put(out, n);
 }
 
-// An answer's number, words and sum. The number has 10 digits at most, a word 11 bytes and the sum 20, each after a space, and the line feed is one more.
+// An answer's number, some of its words and its sum, parted by spaces: 10 digits at most, 11 bytes a word and 20, and a line feed. The text is lent, as a returned one may be copied.
 // `itoa` and no `Display`: tried, and `write!` into an ArrayString doesn't promise to succeed; straight to a writer, each number is a write of its own.
 #[tactic(auto, using(crate::proofs::InTurn::number_first, crate::proofs::InTurn::one_word_more, crate::proofs::InTurn::sum_last))]
 fn numbers_text(out: &mut Printed, answer: Answer, words: &[i32])
@@ -53,7 +53,7 @@ fn numbers_text(out: &mut Printed, answer: Answer, words: &[i32])
     out.push_str("\n");
 }
 
-// "prints number, word 0, sum, parted by one space": this alone is then in what is lent. Of an answer's words it takes the first, `whole_text` all.
+// "prints number, word 0, sum, parted by one space"
 #[tactic(auto, unfolding(crate::specs::Text::line))]
 pub fn line_text(out: &mut Printed, answer: Answer)
     ensures bytes { out.new.bytes ≡ line (answer_of answer) }

@@ -75,7 +75,7 @@ fn judge(
     )
 }
 
-// The offer where none applies. Its reason and its words are two parameters, as a record has them apart: what has passed both is a Passed.
+// The offer where none applies. What refusal 4 left is asked of service and offer together: a series has the one, a record the other. Its reason and its words are two parameters, as a record has them apart: what has passed both is a Passed.
 // In line over `judge`, which returns in a register what a call out of line would store and read again.
 #[inline(always)]
 pub fn check_offer<'a>(

@@ -1,5 +1,4 @@
 // The ten pairs of an offer, and their quantities added.
-// Prices and quantities have types of their own, so that neither is taken for the other.
 ghost use Rattle.std.specs.Prelude.{◌≡◌, ◌≤◌, ◌-◌, nat_abs, length, drop};
 ghost use Rattle.offer_rules.specs.Offer.{pairs_in, pairs, sum_of};
 ghost use Rattle.offers.specs.PairTests.{is_empty};

@@ -58,7 +58,7 @@ pub fn is_book(book: &[i32]) -> bool
     (headed & sizes.is_some()) & !is_beyond(0, time::LAST_MINUTE, book[head::CLOCK])
 }
 
-// 20 "F, S wrong, words too few", or the limits; else the sizes. F and S are two words, as C may send any, until they are known to be a book's.
+// 20 "F, S wrong, words too few", or the limits; else the sizes. F, S and the limits are asked for as C lends them.
 #[tactic(auto, unfolding(book_rules::specs::Words::opening_number, book_rules::specs::Words::opening_words, offer_rules::specs::Numbers::draw))]
 fn opening_sizes(
     book: &[i32],

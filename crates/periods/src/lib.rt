@@ -6,6 +6,7 @@ ghost use Rattle.offer_rules.specs.Time.{slot_of, IsNext, next_period};
 
 use layout::time;
 
+// Two numbers under the name that C has: it asks nothing of either, and the step that is proved is the one that is called.
 // "the least period of that slot not yet begun", "by remainder arithmetic alone": 335·first is 336·first − first, so the remainder is how many periods the
 // slot lies after first. (slot + 336 − first mod 336) mod 336 is the same, but in the call, where the slot is known to be below 336, it is compiled to a
 // conditional move. A slot of 336 or more is taken mod 336. `as` narrows without loss here, and without the branch of `try_from`.

@@ -23,7 +23,7 @@ const W10: usize = W0 + 4 * (2 * offer::FEWER_PAIRS);
 
 const W17: usize = W0 + 4 * facility::CAPABILITY;
 
-// "Words are signed 32-bit, most significant byte first."
+// "Words are signed 32-bit, most significant byte first." Of bytes and a place, as the rule's `word_at`.
 #[tactic(auto, using(crate::proofs::TwosComplement::four_signed, units::proofs::Counts::word_back))]
 pub fn word_at(bytes: &[u8], at: usize) -> i32
     requires { at + 4 ≤ length bytes.now }
@@ -173,7 +173,7 @@ fn has_stray(bytes: &Record) -> bool
     }
 }
 
-// 2, 3, 4, for F facilities and S services; else the record. For every F and S, as C may send any: layout::Sizes has a book's alone.
+// 2, 3, 4, for F facilities and S services; else the record. For every F and S: layout::Sizes, of 64 and 5 at most, would ask more of callers.
 #[tactic(auto, using(layout::proofs::Chains::passed_first, layout::proofs::Chains::refused_first, crate::proofs::Refused::other_length), unfolding(book_rules::specs::Record::record_number))]
 pub fn test_record(bytes: &[u8], facilities: u64, services: u64) -> Result<&Record, Refusal>
     ensures number { drawn result ≡ record_number bytes.now facilities services }

@@ -47,7 +47,7 @@ pub fn check_clock(clock: Minute, minute: i32) -> Result<(), Refusal>
 
 // ---- 7: outages, notices and withdrawals
 
-// "outage: not 0 ≤ m ≤ now, or n outside 1–3 (load 1–48)"; a link's always.
+// "outage: not 0 ≤ m ≤ now, or n outside 1–3 (load 1–48)"; a link's always. What passed stays two words, of which the window is made where it is filed.
 pub fn check_outage(
     clock: Minute,
     capability: &[i32; facility::CAPABILITY],

@@ -9,12 +9,17 @@ use record::{word_at, words_at};
 use std::io::{Read, Write};
 use units::nat;
 
-// One record, and none once the run ends: the input ends, a record is longer than 256 bytes, or a write fails.
+// The longest record that a list may hold, and the words of a list's head.
+const MOST_SENT: usize = 256;
+
+const LIST_HEAD: usize = 9;
+
+// One record, and none once the run ends: the input ends, a record is longer than that, or a write fails.
 fn step<R: Read, W: Write>(input: &mut R, output: &mut W, words: &mut [i32]) -> Option<()> {
     let mut size = [0u8; 4];
     input.read_exact(&mut size).ok()?;
     let length = usize::try_from(i32::from_be_bytes(size)).unwrap_or(0);
-    let mut bytes = [0u8; 256];
+    let mut bytes = [0u8; MOST_SENT];
     let sent = bytes.get_mut(..length)?;
     input.read_exact(sent).ok()?;
     print_whole(output, call(words, sent)).ok()
@@ -29,7 +34,7 @@ fn forget(words: &mut [i32]) {
 
 // One list, and none once the run ends. A book that can't be opened answers 1 to every record.
 fn list<R: Read, W: Write>(input: &mut R, output: &mut W, words: &mut [i32]) -> Option<()> {
-    let mut list_head = [0u8; 4 * 9];
+    let mut list_head = [0u8; 4 * LIST_HEAD];
     input.read_exact(&mut list_head).ok()?;
     let [facilities, services] = words_at::<2>(&list_head, 0);
     let limits = words_at(&list_head, 8);

@@ -80,7 +80,7 @@ pub fn any_beyond(words: &[i32], lo: i32, hi: i32) -> bool
         .fold(false, |any, x| any | is_beyond(lo, hi, *x))
 }
 
-// As an array: copy_from_slice tests, each time, whether the two overlap.
+// As an array: copy_from_slice tests, each time, whether the two overlap. To a slice, as it is a part of what the caller fills.
 pub fn copy_words<const N: usize>(to: &mut [i32], words: &[i32; N])
     requires { length to.old ≡ N }
     ensures { to.new ≡ words.now }

@@ -178,6 +178,7 @@ pub fn notice_call(book: &mut [i32], bytes: &Record) -> Result<(), Refusal>
     let first = word_at(bytes, fields::A);
     let last = word_at(bytes, fields::B);
     refusals::check_notice(kind, first, last)?;
+    // By arithmetic, as the rule's `notice_place`: two words a kind, from kind 3 on.
     let at = head::ENERGY_SURPLUS + 2 * usize::from(kind - fields::ENERGY_SURPLUS);
     store_words(book, at, &[first, last]);
     Ok(())
