@@ -10,9 +10,9 @@ step=$repository/crates/periods
 mkdir -p "$step/src" "$step/proofs/bilzhaan_next_period"
 cp tests/step_with_if/lib.rt.txt "$step/src/lib.rt"
 cp tests/step_with_if/Answers.antt.txt "$step/proofs/bilzhaan_next_period/Answers.antt"
-cp -r crates/offer_rules crates/layout "$repository/crates"
+cp -r crates/offer_rules crates/book_rules crates/layout "$repository/crates"
 {
-    grep -E '^(offer_rules|layout):' crates.txt
+    grep -E '^(offer_rules|book_rules|layout):' crates.txt
     echo "periods staticlib: offer_rules layout"
 } >"$repository/crates.txt"
 
