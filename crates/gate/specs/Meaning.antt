@@ -1,7 +1,6 @@
 -- The declared structs as the rule's records, and words as pairs.
 -- "first and last period" of a window are its two words; a facility's kind is its word.
 use Rattle.std.specs.Prelude.{List, [], ℤ, Option, None, Some}
-use Rattle.offer_rules.specs.Offer.{pairs_in, BlanksLast}
 use Rattle.offer_rules.specs.Gate as rule
 use Rattle.gate.specs.declared.Window.{Window}
 use Rattle.gate.specs.declared.Grounds.{Grounds}
@@ -26,13 +25,8 @@ abbrev pub words_held : Option Held → List ℤ
 words_held None = []
 words_held (Some held) = held.words.now
 
--- The words of an offer that will stand, if one will, and what is asked of it: of a filed one that its blanks come last.
+-- The words of an offer that will stand, if one will.
 abbrev pub words_of : Option Offer → List ℤ
 words_of None = []
-words_of (Some (offer.Filed words)) = words.now
+words_of (Some (offer.Filed filed)) = filed.words.now
 words_of (Some (offer.Held held)) = held.words.now
-
-abbrev pub IsLent : Option Offer → Type 0
-IsLent None = Unit {0}
-IsLent (Some (offer.Filed words)) = BlanksLast (pairs_in words.now)
-IsLent (Some (offer.Held held)) = Unit {0}

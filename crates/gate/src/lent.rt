@@ -1,5 +1,6 @@
 // Offers as the gate is lent them: old, and the one that will stand.
-ghost use Rattle.std.specs.Prelude.{◌≤◌, length};
+ghost use Rattle.std.specs.Prelude.{◌≡◌, false, ◌≤◌, length};
+ghost use Rattle.offer_rules.specs.Offer.{pairs_in, blank_before_filled};
 
 use layout::offer;
 
@@ -11,10 +12,16 @@ pub struct Held<'a> {
     pub ghost at_most_ten: { length words.now ≤ 20 },
 }
 
+// A filed offer: the words of all its ten pairs, of which "all non-blank pairs come first".
+#[derive(Clone, Copy, Debug, PartialEq, Eq)]
+pub struct Filed<'a> {
+    pub words: &'a [i32; offer::PAIR_WORDS],
+    pub ghost blanks_last: { blank_before_filled (pairs_in words.now) ≡ false },
+}
+
 // An offer that will stand.
 #[derive(Clone, Copy, Debug, PartialEq, Eq)]
 pub enum Offer<'a> {
-    // All ten pairs, of which "all non-blank pairs come first".
-    Filed(&'a [i32; offer::PAIR_WORDS]),
+    Filed(Filed<'a>),
     Held(Held<'a>),
 }

@@ -4,17 +4,17 @@
 ghost use Rattle.std.specs.Prelude.{◌≡◌, true, not, ◌&&◌, ◌≤◌, ◌<◌, ltb, length, drop};
 ghost use Rattle.offer_rules.specs.Numbers.{eq_z};
 ghost use Rattle.offer_rules.specs.Kinds.{admits};
-ghost use Rattle.offer_rules.specs.Offer.{pairs_in, all_blank, filled_part, BlanksAfter, BlanksLast};
+ghost use Rattle.offer_rules.specs.Offer.{pairs_in, all_blank, filled_part, BlanksAfter};
 ghost use Rattle.offer_rules.specs.Gate.{tenths_of, total_tenths, same_prices, covers, is_open, admits_service, period_covered, total_moved, is_excepted};
 ghost use Rattle.units.specs.Typed.{pair_of, pairs_of};
 ghost use Rattle.gate.specs.Differing.{first_differing, tenth_or_none};
-ghost use Rattle.gate.specs.Meaning.{window_of, grounds_of, words_held, words_of, IsLent};
+ghost use Rattle.gate.specs.Meaning.{window_of, grounds_of, words_held, words_of};
 
 mod lent;
 
 use kinds::admits;
-use layout::{Minute, offer, service, time};
-pub use lent::{Held, Offer};
+use layout::{Minute, service, time};
+pub use lent::{Filed, Held, Offer};
 use units::{Pair, nat, pair_words};
 
 // The periods of an outage or a notice. No `kinds::Range`: the rule has one word for 32-bit words, `covers`, and one for bytes, `is_in`.
@@ -89,11 +89,11 @@ fn count_to_last(pairs: &[[i32; 2]]) -> usize
 
 impl<'a> Walk<'a> {
     // Of a filed offer the pairs before its first blank, since "all non-blank pairs come first".
-    #[tactic(auto, using(crate::proofs::Blanks::part_lent))]
-    fn filed(words: &'a [i32; offer::PAIR_WORDS]) -> Walk<'a>
-        requires { BlanksLast (pairs_in words.now) }
-        ensures { BlanksAfter (pairs_of result.pairs.now) (pairs_in words.now) }
+    #[tactic(auto, using(crate::proofs::Blanks::part_lent, offer_rules::proofs::Blanks::none_before))]
+    fn filed(filed: Filed<'a>) -> Walk<'a>
+        ensures { BlanksAfter (pairs_of result.pairs.now) (pairs_in filed.entry.words.now) }
     {
+        let words = filed.words;
         let pairs = pair_words(words);
         let end = filled_count(pairs);
         Walk {
@@ -116,11 +116,10 @@ impl<'a> Walk<'a> {
     // No offer has no pairs.
     #[tactic(auto, using(offer_rules::proofs::Blanks::whole), unfolding(offer_rules::specs::Offer::pairs_in))]
     fn of(offer: Option<Offer<'a>>) -> Walk<'a>
-        requires { IsLent offer }
         ensures { BlanksAfter (pairs_of result.pairs.now) (pairs_in (words_of offer.entry)) }
     {
         match offer {
-            Some(Offer::Filed(words)) => Walk::filed(words),
+            Some(Offer::Filed(filed)) => Walk::filed(filed),
             Some(Offer::Held(held)) => Walk::held(held),
             None => Walk { pairs: &[] },
         }
@@ -261,7 +260,6 @@ impl Grounds {
 // filed one, or where a variation is taken back a held one, or none.
 #[tactic(auto, using(crate::proofs::Admitted::not_admitted))]
 pub fn is_excepted(g: Grounds, filing: Filing, old: Option<Held>, new: Option<Offer>) -> bool
-    requires { IsLent new }
     ensures { result ≡ is_excepted (grounds_of g) filing.service filing.period filing.reason (pairs_in (words_held old.entry)) (pairs_in (words_of new.entry)) }
 {
     if !g.is_admitted(filing) {

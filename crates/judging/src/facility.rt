@@ -8,7 +8,7 @@ ghost use Rattle.book_rules.specs.Record.{facility_of};
 ghost use Rattle.book_rules.specs.Words.{part, clock_place, facility_place};
 ghost use Rattle.book_rules.specs.Refusals.{facility_number, gate_number, grounds};
 ghost use Rattle.book_rules.specs.Book.{facilities_in, book_view};
-ghost use Rattle.gate.specs.Meaning.{grounds_of, words_held, words_of, IsLent};
+ghost use Rattle.gate.specs.Meaning.{grounds_of, words_held, words_of};
 ghost use Rattle.judging.specs.Usable.{Usable};
 
 use crate::book::Book;
@@ -84,7 +84,6 @@ impl<'a> Facility<'a> {
         old: Option<Held<'_>>,
         new: Option<Offer<'_>>,
     ) -> Result<(), Refusal>
-        requires lent { IsLent new }
         requires shut { is_open (to_nat (word self.now.book.words.now clock_place)) filing.period ≡ false }
         ensures number { drawn result ≡ gate_number (to_nat (word self.now.book.words.now clock_place)) (grounds (book_view self.now.book.words.now) self.now.f) filing.service filing.period filing.reason (pairs_in (words_held old.entry)) (pairs_in (words_of new.entry)) }
         ensures bound { drawn result ≤ 17 }

@@ -12,13 +12,13 @@ ghost use Rattle.book_rules.specs.Force.{in_force, will_stand, pairs_of};
 ghost use Rattle.book_rules.specs.Refusals.{facility_number, registration_number, gate_number, admission_number, revision_number, admitted_standing, grounds};
 ghost use Rattle.book_rules.specs.Book.{facilities_in, services_in, book_view};
 ghost use Rattle.offers.specs.PairTests.{UsesFive};
-ghost use Rattle.gate.specs.Meaning.{words_held, words_of, IsLent};
+ghost use Rattle.gate.specs.Meaning.{words_held, words_of};
 ghost use Rattle.cells.specs.Meaning.{held_by};
 ghost use Rattle.judging.specs.Usable.{Usable};
 
 use crate::facility::Facility;
 use cells::{Cell, Place, PlaceCells};
-use gate::{Filing, Held, Offer};
+use gate::{Filed, Filing, Held, Offer};
 use layout::{Period, Refusal, Service, Slot, fields, offer, refuse_if};
 use offers::{Passed, is_slot_refused};
 use units::nat;
@@ -146,13 +146,13 @@ impl<'a> Series<'a> {
     }
 
     // "the offer that will stand afterwards": the filed one, or where it is all blank the slot's standing offer, or none where none is held.
-    #[tactic(auto, using(offer_rules::proofs::Blanks::none_before), unfolding(offer_rules::specs::Offer::pairs_in, offer_rules::specs::Offer::pairs, book_rules::specs::Force::pairs_of, book_rules::specs::Force::first_of, book_rules::specs::Force::variation_made, book_rules::specs::Force::will_stand))]
+    #[tactic(auto, unfolding(offer_rules::specs::Offer::pairs_in, offer_rules::specs::Offer::pairs, book_rules::specs::Force::pairs_of, book_rules::specs::Force::first_of, book_rules::specs::Force::variation_made, book_rules::specs::Force::will_stand))]
     fn afterwards<'b>(&'b self, period: Period, filed: Passed<'b>) -> Option<Offer<'b>>
-        ensures lent { IsLent result }
-        ensures pairs { pairs_in (words_of result) ≡ pairs_of (will_stand (book_view self.now.facility.book.words.now) self.now.facility.f self.now.service.number period.number filed.entry.offer.now) }
+        ensures { pairs_in (words_of result) ≡ pairs_of (will_stand (book_view self.now.facility.book.words.now) self.now.facility.f self.now.service.number period.number filed.entry.offer.now) }
     {
         if !filed.is_all_blank() {
-            return Some(Offer::Filed(filed.pairs()));
+            let words = filed.pairs();
+            return Some(Offer::Filed(Filed { words }));
         }
         let held = self.cells().held_standing(period.slot());
         held.map(|held| {
@@ -195,7 +195,7 @@ impl<'a> Series<'a> {
     // ---- a standing offer over a held one
 
     // 17 of a standing offer over the held one. Before closure, where most are filed, no window and no pair is read.
-    #[tactic(auto, using(crate::proofs::Stages::open_draws_none, offer_rules::proofs::Blanks::none_before), unfolding(offer_rules::specs::Offer::pairs))]
+    #[tactic(auto, using(crate::proofs::Stages::open_draws_none), unfolding(offer_rules::specs::Offer::pairs))]
     fn check_standing_gate(
         &self,
         slot: Slot,
@@ -211,7 +211,8 @@ impl<'a> Series<'a> {
         };
         let words = held.pairs();
         let old = Some(Held { words });
-        let new = Some(Offer::Filed(filed.pairs()));
+        let words = filed.pairs();
+        let new = Some(Offer::Filed(Filed { words }));
         self.facility.check_gate(filing, old, new)
     }
 
