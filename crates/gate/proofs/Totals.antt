@@ -1,14 +1,18 @@
--- The tenths of the pairs from one of them on: its own and those of the pairs after it.
-use Rattle.std.proofs.Common.{◌≡◌, ℕ, ◌+◌, ◌≤◌, ◌<◌, List, [], refl, add-one, length, drop, get_or, drop-cons, drop_of_length-le}
+-- The tenths of pairs added, one pair after another.
+use Rattle.std.proofs.Common.{◌≡◌, ℕ, ◌+◌, ◌*◌, List, [], ◌∷◌, refl, ◌∙◌, arith, fold, length, sum_by}
+use Rattle.std.proofs.lemmas.List.Sums.{sum_by-cons}
 use Rattle.std.specs.Prelude.{ℤ}
 use Rattle.offer_rules.specs.Gate.{tenths_of, total_tenths}
 use Rattle.units.specs.Typed.{typed, pair_of, pairs_of}
 
-pub total_from : (l : List (List ℤ)) (i : ℕ) → i < length l
-    → total_tenths (pairs_of (drop i l)) ≡ tenths_of (pair_of (typed (get_or l i []))) + total_tenths (pairs_of (drop (i + 1) l))
+added_from : (n : ℕ) (l : List (List ℤ)) → fold (λ total words. total + tenths_of (pair_of (typed words))) n l ≡ n + total_tenths (pairs_of l)
 unfolding total_tenths
-total_from l i h = rw (add-one, drop-cons l i [] h) refl
+added_from n [] = omega arith
+added_from n (x ∷ l) = added_from (n + tenths_of (pair_of (typed x))) l ∙ omega arith
 
-pub total_at_end : (l : List (List ℤ)) (i : ℕ) → length l ≤ i → total_tenths (pairs_of (drop i l)) ≡ 0
-unfolding total_tenths
-total_at_end l i h = rw (drop_of_length-le l h) refl
+pub added : (l : List (List ℤ)) → fold (λ total words. total + tenths_of (pair_of (typed words))) 0 l ≡ total_tenths (pairs_of l)
+added l = added_from 0 l ∙ omega arith
+
+pub most_of : (l : List (List ℤ)) → sum_by (λ words. 2147483648) l ≡ length l * 2147483648
+most_of [] = refl
+most_of (x ∷ l) = let e = most_of l in sum_by-cons (λ words. 2147483648) x l ∙ omega (arith, e)

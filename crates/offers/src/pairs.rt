@@ -37,6 +37,7 @@ pub fn sum_of(pairs: &[i32; offer::PAIR_WORDS]) -> i64
     ensures { (result ≡ sum_of (pairs_in pairs.now)) × (nat_abs result ≤ 21474836480) }
 {
     let mut total = Sum(0);
+    // A loop: a fold was tried, and the check doesn't prove it. Its closure isn't told the bound of the total; the library's law that tells it is of naturals.
     for words in ten_pairs(pairs) {
         total = total + Pair::from(words).quantity;
     }
