@@ -260,7 +260,7 @@ impl DayOfYear {
         self.before + 2 - more
     }
 
-    // The month and the day of it: with a February of 30 days it falls among twelve months that share 367 days evenly.
+    // The month and the day of it, two numbers, as a Month would say once more which year it is of: with a February of 30 days it falls among twelve months that share 367 days evenly.
     #[tactic(auto, using(crate::proofs::Months::month_falls, crate::proofs::Months::day_falls))]
     fn month_and_day(self) -> (u64, u64)
         ensures month { (result.0 ≡ month_at self.leap self.before) × (result.0 ≤ 12) }

@@ -220,7 +220,7 @@ fn is_total_moved(reason: u8, old: Walk, new: Walk) -> bool
     }
 }
 
-// "A variation is open when 30·P − now is 65 or more."
+// "A variation is open when 30·P − now is 65 or more." Of any period below 2³¹, as of a filing: layout's Period would ask more of callers.
 pub fn is_before_closure(clock: Minute, period: u64) -> bool
     requires { period < 2147483648 }
     ensures { result ≡ is_open clock.number period }

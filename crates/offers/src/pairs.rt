@@ -46,7 +46,7 @@ pub fn sum_of(pairs: &[i32; offer::PAIR_WORDS]) -> i64
 
 // ---- empty pairs
 
-// Neither a price nor a quantity.
+// Neither a price nor a quantity. Not beside `is_blank`, as the word is of this crate's specs.
 pub fn is_empty(pair: Pair) -> bool
     ensures { result ≡ is_empty pair.price pair.quantity }
 {

@@ -36,6 +36,7 @@ fn forget(words: &mut [i32]) {
 fn list<R: Read, W: Write>(input: &mut R, output: &mut W, words: &mut [i32]) -> Option<()> {
     let mut list_head = [0u8; 4 * LIST_HEAD];
     input.read_exact(&mut list_head).ok()?;
+    // F and S, six limits, the number of records: one pattern over all nine, with the limits as its `..`, was tried and isn't proved.
     let [facilities, services] = words_at::<2>(&list_head, 0);
     let limits = words_at(&list_head, 8);
     let count = word_at(&list_head, 32);
