@@ -1,5 +1,5 @@
 -- A list filled from the front, over any element.
-use mathlib.Core.Path.{◌≡◌, refl, sym, ap, ◌∙◌}
+use mathlib.Core.Path.{◌≡◌, sym, ap, ◌∙◌}
 use mathlib.Core.List.{List, [], ◌∷◌, ◌++◌, append-nil}
 use Prim.Native.Nat.{ℕ, suc, ◌+◌, ◌<◌}
 use native.Mathlib.Numerals.{add-one}
@@ -24,6 +24,3 @@ module _ {A : Type 0} where
       let stored : sets d 0 x ≡ x ++ drop i d = sets-eq x d 0 (omega arith) ∙ ap (λ (k : ℕ). x ++ drop k d) here in
       let past : drop n (drop i d) ≡ [] = drop_of_length-le (drop i d) (omega (arith, length-drop i d)) in
       rw (stored, take_at x (drop i d) i e, drop_at x (drop i d) i e, past, append-nil y)
-
-  pub three_and_rest : (d x : List A) (n : ℕ) (a b c : A) → length d ≡ 3 + n → put_mid 3 n (set (set (set d 0 a) 1 b) 2 c) x ≡ a ∷ (b ∷ (c ∷ x))
-  three_and_rest d x n a b c h = first_and_rest d (a ∷ (b ∷ (c ∷ []))) x 3 n refl h
