@@ -2,9 +2,15 @@
 proves the first and runs it, with a stand-in for the prover.
 
 Run after `rt ci`, or `rt run` in crates/offer_book and in crates/replay, which build them into the crate's out/."""
+import fcntl
 import os
+import signal
+import socket
+import struct
 import subprocess
 import tempfile
+import termios
+import time
 import unittest
 
 HERE = os.path.dirname(os.path.abspath(__file__))
@@ -120,6 +126,45 @@ class StandardInputAndOutput(unittest.TestCase):
         finally:
             os.close(folder)
         self.assertEqual(p.stdout, b"")
+
+    def wait_for_state(self, process, state):
+        for _ in range(2000):
+            with open("/proc/%d/stat" % process.pid) as f:
+                if f.read().rsplit(")", 1)[1].split()[0] == state:
+                    return
+            time.sleep(0.01)
+        self.fail("the program never came to state " + state)
+
+    def interrupted(self, program, data):
+        """What it answers where it has read these bytes, waits for more on a socket with a time limit, and is stopped and continued: its read fails then."""
+        near, far = socket.socketpair()
+        far.setsockopt(socket.SOL_SOCKET, socket.SO_RCVTIMEO, struct.pack("ll", 600, 0))
+        p = subprocess.Popen([program], stdin=far, stdout=subprocess.PIPE)
+        far.close()
+        try:
+            near.sendall(data)
+            while struct.unpack("i", fcntl.ioctl(near, termios.TIOCOUTQ, bytes(4)))[0]:
+                time.sleep(0.01)
+            self.wait_for_state(p, "S")
+            p.send_signal(signal.SIGSTOP)
+            self.wait_for_state(p, "T")
+            p.send_signal(signal.SIGCONT)
+            answers = p.communicate(timeout=60)[0]
+        finally:
+            near.close()
+            p.kill()
+            p.wait()
+        self.assertEqual(p.returncode, 0)
+        return answers
+
+    def test_an_interrupted_read_ends_the_run(self):
+        self.assertEqual(self.interrupted(OFFER_BOOK, self.record + self.record[:50]), b"0 0 0\n2 0 0\n")
+        head = b"".join(x.to_bytes(4, "big", signed=True) for x in (1, 1, -450000, 450000, 450000, 450000, 450000, 450000, 9))
+        first = (112).to_bytes(4, "big") + self.record
+        line = b"0" + b" 0" * 25 + b"\n"
+        for data, answers in ((b"", b""), (head[:20], b""), (head, b""), (head + first[:2], b""), (head + first[:60], b""), (head + first, line), (head + first + first[:4], line)):
+            with self.subTest(len(data)):
+                self.assertEqual(self.interrupted(REPLAY, data), answers)
 
     def test_a_list_that_cannot_be_opened_draws_1(self):
         head = b"".join(x.to_bytes(4, "big", signed=True) for x in (65, 1, -450000, 450000, 0, 0, 0, 0, 1))

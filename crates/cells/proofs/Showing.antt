@@ -18,8 +18,7 @@ unfolding pairs_of
 sum_shown (Standing c) = refl
 sum_shown (Variation c) = refl
 
--- Nothing in force shows nothing: a look-up then answers zeros, as a refused call does. No proof asks for it: the code draws 19 there.
--- docs/DESIGN-PASS.md names it, as what a look-up promised of nothing.
+-- Nothing in force shows nothing: a look-up then answers zeros, as a refused call does. A call draws 19 before that.
 pub nothing_shown : (clock : ℕ) → found clock (meaning None) ≡ plain 0
 unfolding found found_words pairs_of sum_of plain
 nothing_shown clock = refl

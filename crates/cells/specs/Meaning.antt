@@ -1,10 +1,11 @@
 -- What the code's enums and structs mean in document 01's rules: what a cell holds, the offer in force, an answer's three fields,
 -- and the sizes that the book's words show.
-use Rattle.std.specs.Prelude.{◌≡◌, List, ℕ, ◌≤◌, ℤ, length, Option, None, Some, Result, Ok, Err}
+use Rattle.std.specs.Prelude.{◌≡◌, Bool, false, List, ℕ, ◌≤◌, ℤ, length, Option, None, Some, Result, Ok, Err}
 use Rattle.std.proofs.Math.Option as math
 use Rattle.offer_rules.specs.Offer.{Held}
 use Rattle.book_rules.specs.Words.{book_size, cell_held, standing_half, variation_half}
 use Rattle.book_rules.specs.Force as force
+use Rattle.book_rules.specs.Refusals.{equal_words}
 use Rattle.book_rules.specs.Book.{facilities_in, services_in}
 use Rattle.layout.specs.Refusal.{number}
 use Rattle.layout.specs.declared.refusal.Refusal.{Refusal}
@@ -34,6 +35,12 @@ abbrev pub meaning : Option InForce → force.InForce
 meaning None = force.no_offer
 meaning (Some (Standing c)) = force.standing_offer (held_by c)
 meaning (Some (Variation c)) = force.offer_variation (held_by c)
+
+-- 18 "equal to the held one", of an offer in force.
+unfoldable pub is_same_offer : force.InForce → List ℤ → Bool
+is_same_offer force.no_offer o = false
+is_same_offer (force.standing_offer h) o = equal_words h.offer o
+is_same_offer (force.offer_variation h) o = equal_words h.offer o
 
 abbrev pub cell_of : InForce → Cell
 cell_of (Standing c) = c

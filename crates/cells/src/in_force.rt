@@ -1,16 +1,16 @@
 // The offer in force, and what is told of it.
 // `as` makes a clock signed, and loses nothing: it is a minute in time.
-ghost use Rattle.std.specs.Prelude.{◌≡◌, ◌≤◌, ◌<◌, ◌+◌, ◌+ℤ◌, nat_abs, Some};
+ghost use Rattle.std.specs.Prelude.{◌≡◌, ◌≤◌, ◌<◌, ◌+◌, ◌+ℤ◌, nat_abs, length, Some};
 ghost use Rattle.offer_rules.specs.Numbers.{word};
 ghost use Rattle.offer_rules.specs.Time.{is_fresh};
 ghost use Rattle.offer_rules.specs.Offer.{pairs_in};
 ghost use Rattle.book_rules.specs.Force.{pairs_of, counted, offered, found, found_words};
-ghost use Rattle.cells.specs.Meaning.{cell_of, meaning, answer_of};
+ghost use Rattle.cells.specs.Meaning.{cell_of, meaning, is_same_offer, answer_of};
 
-use crate::answers::Answer;
+use crate::answers::{Answer, plain};
 use crate::held::Cell;
 use layout::{Minute, answer, offer, time};
-use units::copy_words;
+use units::copy_array;
 
 // By its cell; specs/Meaning says what each case means.
 #[derive(Clone, Copy, Debug, PartialEq, Eq)]
@@ -70,12 +70,48 @@ impl<'a> InForce<'a> {
         words[answer::PROPORTION] = terms.proportion;
         words[answer::RAMP_UP] = terms.up;
         words[answer::RAMP_DOWN] = terms.down;
-        copy_words(&mut words[answer::PAIRS..], cell.pairs());
+        copy_array(&mut words[answer::PAIRS..], cell.pairs());
         Answer {
             number: 0,
             words,
             sum: cell.total(),
         }
+    }
+}
+
+// ---- of the offer in force, where there is one
+
+// What is told of it; zeros where nothing is in force.
+#[tactic(auto, using(crate::proofs::Showing::nothing_shown))]
+pub fn look_up(offer: Option<InForce<'_>>, clock: Minute) -> Answer
+    ensures { answer_of result ≡ found clock.number (meaning offer.entry) }
+{
+    match offer {
+        None => plain(0),
+        Some(offer) => offer.look_up(clock),
+    }
+}
+
+// The words of its pairs; none where nothing is in force.
+#[tactic(auto, unfolding(offer_rules::specs::Offer::pairs_in, book_rules::specs::Force::pairs_of))]
+pub fn pairs_of(offer: Option<InForce<'_>>) -> &[i32]
+    ensures pairs { pairs_in result.now ≡ pairs_of (meaning offer.entry) }
+    ensures most { length result.now ≤ 20 }
+{
+    match offer {
+        None => &[],
+        Some(offer) => offer.pairs(),
+    }
+}
+
+// 18: equal to it; no offer is equal to nothing.
+#[tactic(auto, unfolding(crate::specs::Meaning::is_same_offer))]
+pub fn is_same_offer(held: Option<InForce<'_>>, offer: &[i32; offer::WORDS]) -> bool
+    ensures { result ≡ is_same_offer (meaning held.entry) offer.now }
+{
+    match held {
+        None => false,
+        Some(held) => held.cell().is_same_offer(offer),
     }
 }
 

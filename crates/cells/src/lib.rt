@@ -13,7 +13,7 @@ mod view;
 pub use answers::{Answer, plain};
 pub use filing::Filing;
 pub use held::Cell;
-pub use in_force::InForce;
+pub use in_force::{InForce, is_same_offer, look_up, pairs_of};
 pub use places::{CellPlace, Half, Place};
 pub use stores::{store_offer, store_words};
 pub use view::{Cells, PlaceCells};

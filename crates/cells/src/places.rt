@@ -37,7 +37,7 @@ pub struct CellPlace {
 }
 
 impl CellPlace {
-    // "numbered ((f·S + s)·2 + h)·336 + slot": added up by services, so that the two cells of a slot lie a constant apart in a total's loop.
+    // "numbered ((f·S + s)·2 + h)·336 + slot", added up by services, whose cells a total passes over
     #[tactic(auto, unfolding(book_rules::specs::Words::cell_place))]
     pub(crate) fn start(self) -> usize
         ensures place { result ≡ cell_place self.place.sizes.facilities self.place.sizes.services self.place.f self.place.s (half_number self.half) self.slot.number }

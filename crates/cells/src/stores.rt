@@ -11,7 +11,7 @@ use crate::filing::Filing;
 use crate::places::CellPlace;
 use layout::{cell, offer};
 use offers::words_of_pairs;
-use units::copy_words;
+use units::copy_array;
 
 // "ramp up times 10,000 plus ramp down"
 fn packed_ramps(up: i32, down: i32) -> i32
@@ -33,7 +33,7 @@ fn write_cell(words: &mut [i32], filing: Filing<'_>)
     words[cell::PROPORTION] = offer[offer::PROPORTION];
     words[cell::RAMPS] = packed_ramps(offer[offer::RAMP_UP], offer[offer::RAMP_DOWN]);
     words[cell::MINUTE] = filing.minute.number as i32;
-    copy_words(&mut words[cell::PAIRS..cell::WORDS], words_of_pairs(offer));
+    copy_array(&mut words[cell::PAIRS..cell::WORDS], words_of_pairs(offer));
 }
 
 // "An accepted offer writes one cell's 24 words and no other word."

@@ -8,7 +8,7 @@ use Rattle.offer_rules.specs.Offer.{Pair, BlanksAfter}
 use Rattle.offer_rules.specs.Gate.{Grounds, total_tenths, same_prices, admits_service, period_covered, total_moved, reason_holds, is_excepted}
 use Rattle.offer_rules.proofs.Blanks.{excepted_by_first}
 
-by_totals_and_prices : (g : Grounds) (s p reason : ℕ) (old new : List Pair)
+pub by_totals_and_prices : (g : Grounds) (s p reason : ℕ) (old new : List Pair)
     → (t : Bool) → ((admits g.kind reason && admits_service s reason) && period_covered g p reason) ≡ t
     → is_excepted g s p reason old new ≡ (t && (total_moved reason (total_tenths old) (total_tenths new) && same_prices old new))
 unfolding is_excepted reason_holds

@@ -234,7 +234,8 @@ impl Grounds {
     fn is_period_covered(self, filing: Filing) -> bool
         ensures { result ≡ period_covered (grounds_of self) filing.period filing.reason }
     {
-        match filing.reason {
+        let reason = filing.reason;
+        match reason {
             2 | 6 => self.outage.covers(filing),
             3 => self.surplus.covers(filing),
             4 => self.shortfall.covers(filing),

@@ -2,7 +2,7 @@
 // Promised is the text, and that it is put after what a writer holds, where the writer says what it holds; a file or a terminal doesn't.
 #![tactic(auto)]
 
-ghost use Rattle.std.specs.Prelude.{◌≡◌, ◌∷◌, ◌++◌, ◌+◌, ◌*◌, ◌≤◌, ◌<◌, length, take, OnOk};
+ghost use Rattle.std.specs.Prelude.{◌≡◌, ◌∷◌, ◌++◌, ◌+◌, ◌*◌, ◌≤◌, ◌<◌, length, take, drop, OnOk};
 ghost use Rattle.std.specs.Io.KnownBytes.{Appends, Consumes};
 ghost use Rattle.io.specs.Counts.{IsPrefixLen};
 ghost use Rattle.arrayvec.specs.ArrayString.{array_string_len};
@@ -55,7 +55,7 @@ fn numbers_text(out: &mut Printed, answer: Answer, words: &[i32])
 
 // "prints number, word 0, sum, parted by one space"
 #[tactic(auto, unfolding(crate::specs::Text::line))]
-pub fn line_text(out: &mut Printed, answer: Answer)
+pub fn put_line(out: &mut Printed, answer: Answer)
     ensures bytes { out.new.bytes ≡ line (answer_of answer) }
     ensures len { array_string_len out.new ≤ 44 }
 {
@@ -64,11 +64,44 @@ pub fn line_text(out: &mut Printed, answer: Answer)
 
 // Number, all 24 words, sum.
 #[tactic(auto, unfolding(crate::specs::Text::whole))]
-pub fn whole_text(out: &mut Printed, answer: Answer)
+pub fn put_whole(out: &mut Printed, answer: Answer)
     ensures bytes { out.new.bytes ≡ whole (answer_of answer) }
     ensures len { array_string_len out.new ≤ 320 }
 {
     numbers_text(out, answer, &answer.words);
+}
+
+// A text at the start of what is lent, and its length; what stands past it stays.
+fn lend(out: &mut [u8], text: &str) -> usize
+    requires { length text.now ≤ length out.old }
+    ensures value { result ≡ length text.now }
+    ensures out_after { out.new ≡ text.now ++ drop result out.old }
+{
+    let end = text.len();
+    out[..end].copy_from_slice(text.as_bytes());
+    end
+}
+
+// An answer's line in bytes of the caller's, and its length.
+pub fn line_text(out: &mut [u8; 64], answer: Answer) -> usize
+    ensures prefix_len { IsPrefixLen result out.new }
+    ensures value { (result ≡ length (line (answer_of answer))) × (result ≤ 44) }
+    ensures out_after { out.new ≡ line (answer_of answer) ++ drop result out.old }
+{
+    let mut text = Printed::new();
+    put_line(&mut text, answer);
+    lend(out, text.as_str())
+}
+
+// An answer whole, so.
+pub fn whole_text(out: &mut [u8; 512], answer: Answer) -> usize
+    ensures prefix_len { IsPrefixLen result out.new }
+    ensures value { (result ≡ length (whole (answer_of answer))) × (result ≤ 320) }
+    ensures out_after { out.new ≡ whole (answer_of answer) ++ drop result out.old }
+{
+    let mut text = Printed::new();
+    put_whole(&mut text, answer);
+    lend(out, text.as_str())
 }
 
 // Reads until the bytes are full, the input ends or a read fails, and returns how many were put at their start, which std's `read_exact` doesn't say.
@@ -100,7 +133,7 @@ pub fn print_line<W: Write>(out: &mut W, answer: Answer) -> io::Result<()>
     ensures { OnOk result (Appends (W.contents out.old) (W.contents out.new) (line (answer_of answer))) }
 {
     let mut text = Printed::new();
-    line_text(&mut text, answer);
+    put_line(&mut text, answer);
     print(out, text.as_str())
 }
 
@@ -109,6 +142,6 @@ pub fn print_whole<W: Write>(out: &mut W, answer: Answer) -> io::Result<()>
     ensures { OnOk result (Appends (W.contents out.old) (W.contents out.new) (whole (answer_of answer))) }
 {
     let mut text = Printed::new();
-    whole_text(&mut text, answer);
+    put_whole(&mut text, answer);
     print(out, text.as_str())
 }

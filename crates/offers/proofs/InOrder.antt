@@ -1,5 +1,5 @@
 -- The rule's numbers in the order in which the code asks for them, and the greatest of them.
-use Rattle.std.proofs.Common.{◌≡◌, refl, Bool, true, false, not, ◌||◌, List, ℕ, ◌≤◌, ltb, ℤ, arith}
+use Rattle.std.proofs.Common.{◌≡◌, refl, Bool, true, false, not, cond, ◌||◌, List, ℕ, ◌≤◌, ltb, eqb, ℤ, arith}
 use Rattle.offer_rules.specs.Numbers.{draw, ◌then◌}
 use Rattle.offer_rules.specs.Offer.{Pair, pairs, sum_of, any_pair, pair_out_of_range, out_of_range, blank_refused, non_blank_prices, rises, ramp_refused, proportion_refused, above_capacity, offer_number}
 use Rattle.offers.specs.Typed.{limits_of}
@@ -37,3 +37,25 @@ pairs_most lowest highest l =
     go false true d = omega arith
     go false false true = omega arith
     go false false false = omega arith
+
+draw_at_most : (t : Bool) (n : ℕ) → n ≤ 16 → draw t n ≤ 16
+unfolding draw
+draw_at_most true n h = h
+draw_at_most false n h = omega arith
+
+then_at_most : (n m : ℕ) → n ≤ 16 → m ≤ 16 → (n then m) ≤ 16
+unfolding ◌then◌
+then_at_most n m h k = go (eqb n 0)
+  where
+    go : (t : Bool) → cond t m n ≤ 16
+    go true = k
+    go false = h
+
+-- of any lists
+pub number_at_most : (limits c : List ℤ) (s reason : ℕ) (o : List ℤ) → offer_number limits c s reason o ≤ 16
+unfolding offer_number
+number_at_most limits c s reason o =
+    then_at_most _ _ (draw_at_most _ 11 (omega arith))
+    (then_at_most _ _ (draw_at_most _ 12 (omega arith))
+    (then_at_most _ _ (draw_at_most _ 13 (omega arith))
+    (then_at_most _ _ (draw_at_most _ 14 (omega arith)) (then_at_most _ _ (draw_at_most _ 15 (omega arith)) (draw_at_most _ 16 (omega arith))))))

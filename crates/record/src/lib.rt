@@ -13,7 +13,7 @@ use layout::fields::{
 };
 use layout::{Refusal, facility, head, offer, refuse_if, service};
 use std::array;
-use units::{copy_words, nat};
+use units::{copy_array, nat};
 
 // A record's 112 bytes.
 pub type Record = [u8; BYTES];
@@ -56,7 +56,7 @@ pub fn read_offer(bytes: &Record, words: &mut [i32; offer::WORDS])
     words[offer::RAMP_UP] = word_at(bytes, RAMP_UP);
     words[offer::RAMP_DOWN] = word_at(bytes, RAMP_DOWN);
     let pairs: [i32; offer::PAIR_WORDS] = words_at(bytes, W0);
-    copy_words(&mut words[offer::PAIRS..], &pairs);
+    copy_array(&mut words[offer::PAIRS..], &pairs);
 }
 
 // W0 to W16.

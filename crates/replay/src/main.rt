@@ -3,7 +3,7 @@
 #![tactic(auto)]
 
 use book::call;
-use lines::print_whole;
+use lines::{print_whole, read_full};
 use opening::open;
 use record::{word_at, words_at};
 use std::io::{Read, Write};
@@ -14,14 +14,19 @@ const MOST_SENT: usize = 256;
 
 const LIST_HEAD: usize = 9;
 
+// None where the input ends before the bytes are full, or a read fails, an interrupted one too, which std's `read_exact` would try again.
+fn fill<R: Read>(input: &mut R, bytes: &mut [u8]) -> Option<()> {
+    (read_full(input, bytes) == bytes.len()).then_some(())
+}
+
 // One record, and none once the run ends: the input ends, a record is longer than that, or a write fails.
 fn step<R: Read, W: Write>(input: &mut R, output: &mut W, words: &mut [i32]) -> Option<()> {
     let mut size = [0u8; 4];
-    input.read_exact(&mut size).ok()?;
+    fill(input, &mut size)?;
     let length = usize::try_from(i32::from_be_bytes(size)).unwrap_or(0);
     let mut bytes = [0u8; MOST_SENT];
     let sent = bytes.get_mut(..length)?;
-    input.read_exact(sent).ok()?;
+    fill(input, sent)?;
     print_whole(output, call(words, sent)).ok()
 }
 
@@ -35,7 +40,7 @@ fn forget(words: &mut [i32]) {
 // One list, and none once the run ends. A book that can't be opened answers 1 to every record.
 fn list<R: Read, W: Write>(input: &mut R, output: &mut W, words: &mut [i32]) -> Option<()> {
     let mut list_head = [0u8; 4 * LIST_HEAD];
-    input.read_exact(&mut list_head).ok()?;
+    fill(input, &mut list_head)?;
     // F and S, six limits, the number of records: one pattern over all nine, with the limits as its `..`, was tried and isn't proved.
     let [facilities, services] = words_at::<2>(&list_head, 0);
     let limits = words_at(&list_head, 8);

@@ -80,8 +80,16 @@ pub fn any_beyond(words: &[i32], lo: i32, hi: i32) -> bool
         .fold(false, |any, x| any | is_beyond(lo, hi, *x))
 }
 
+// Words of any count, to as many.
+pub fn copy_words(to: &mut [i32], from: &[i32])
+    requires { length to.old ≡ length from.now }
+    ensures { to.new ≡ from.now }
+{
+    to.copy_from_slice(from);
+}
+
 // As an array: copy_from_slice tests, each time, whether the two overlap. To a slice, as it is a part of what the caller fills.
-pub fn copy_words<const N: usize>(to: &mut [i32], words: &[i32; N])
+pub fn copy_array<const N: usize>(to: &mut [i32], words: &[i32; N])
     requires { length to.old ≡ N }
     ensures { to.new ≡ words.now }
 {

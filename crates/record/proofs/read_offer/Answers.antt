@@ -14,4 +14,4 @@ returns c =
     let d = c.word_at-2 in
     let proportion : p.result ≡ pos (byte b 14 * 256 + byte b 15) = p.ensures ∙ ap pos (omega (arith, c.from_be_bytes.ensures)) in
     first_and_rest c.args.words.now (_ ∷ (_ ∷ (_ ∷ []))) _ 3 20 refl c.told-words
-    ∙ rw (word_back p.result p.type_inv, proportion, word_back u.result u.type_inv, u.ensures, word_back d.result d.type_inv, d.ensures, c.copy_words.ensures, c.words_at-pairs.ensures)
+    ∙ rw (word_back p.result p.type_inv, proportion, word_back u.result u.type_inv, u.ensures, word_back d.result d.type_inv, d.ensures, c.copy_array.ensures, c.words_at-pairs.ensures)

@@ -8,4 +8,4 @@ unfolding outage_number
 returns-clause-number c = search rules
 
 pub returns-clause-passed : goal.returns-clause-passed
-returns-clause-passed c e = outage_passed c.args.clock.number c.args.capability.now c.args.minute c.args.count (sym (returns-clause-number c) ∙ e)
+returns-clause-passed c e = (outage_passed c.args.clock.number c.args.capability.now c.args.minute c.args.count (sym (returns-clause-number c) ∙ e)).1
