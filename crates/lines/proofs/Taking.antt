@@ -9,19 +9,19 @@ use Rattle.std.proofs.lemmas.List.{length-append, length-take-le, take-append-le
 use Rattle.std.proofs.Math.Seq.{take-append-add}
 use borrow.Rule.Slice.PartMut.{put_mid, post_of}
 
-taken_after : (old mid new : Option (List ℕ)) (s t : List ℕ) → Consumes old mid s → Consumes mid new t → Consumes old new (s ++ t)
+pub taken_after : (old mid new : Option (List ℕ)) (s t : List ℕ) → Consumes old mid s → Consumes mid new t → Consumes old new (s ++ t)
 taken_after None mid new s t p q = tt
 taken_after (Some xs) None new s t p q = absurd p
 taken_after (Some xs) (Some ys) None s t p q = absurd q
 taken_after (Some xs) (Some ys) (Some zs) s t p q = rw (p, q, append_assoc)
 
 -- A part written from `at` on, of which n bytes count.
-put_on : (b p : List ℕ) (at k n : ℕ) → at ≤ length b → n ≤ length p → take (at + n) (put_mid at k b p) ≡ take at b ++ take n p
+pub put_on : (b p : List ℕ) (at k n : ℕ) → at ≤ length b → n ≤ length p → take (at + n) (put_mid at k b p) ≡ take at b ++ take n p
 put_on b p at k n room within =
     rw (length-take-le at b room) at (take-append-add (take at b) (p ++ post_of at k b) n)
     ∙ ap (λ (t : List ℕ). take at b ++ t) (take-append-le n p (post_of at k b) within)
 
-room_after : (b p : List ℕ) (at k n : ℕ) → at ≤ length b → n ≤ length p → at + n ≤ length (put_mid at k b p)
+pub room_after : (b p : List ℕ) (at k n : ℕ) → at ≤ length b → n ≤ length p → at + n ≤ length (put_mid at k b p)
 room_after b p at k n room within = simp length-append (omega (arith, length-take-le at b room))
 
 -- One more read, which gave n bytes, after those before it.

@@ -6,17 +6,17 @@ use Rattle.book_rules.specs.Force.{Answer}
 use Rattle.book_rules.specs.Book.{book_answer, book_after, book_answers, book_run}
 use Rattle.listed.specs.ListAnswered.{chopped, numbers_of, flat}
 
-run_more : (w : List ℤ) (bs : List (List ℕ)) (b : List ℕ) → book_run w (bs ++ (b ∷ [])) ≡ book_after (book_run w bs) b
+pub run_more : (w : List ℤ) (bs : List (List ℕ)) (b : List ℕ) → book_run w (bs ++ (b ∷ [])) ≡ book_after (book_run w bs) b
 unfolding book_run
 run_more w [] b = refl
 run_more w (x ∷ bs) b = run_more (book_after w x) bs b
 
-answers_more : (w : List ℤ) (bs : List (List ℕ)) (b : List ℕ) → book_answers w (bs ++ (b ∷ [])) ≡ book_answers w bs ++ (book_answer (book_run w bs) b ∷ [])
+pub answers_more : (w : List ℤ) (bs : List (List ℕ)) (b : List ℕ) → book_answers w (bs ++ (b ∷ [])) ≡ book_answers w bs ++ (book_answer (book_run w bs) b ∷ [])
 unfolding book_run book_answers
 answers_more w [] b = refl
 answers_more w (x ∷ bs) b = ap (λ (l : List Answer). book_answer w x ∷ l) (answers_more (book_after w x) bs b)
 
-flat_more : (l : List Answer) (a : Answer) → flat (l ++ (a ∷ [])) ≡ flat l ++ numbers_of a
+pub flat_more : (l : List Answer) (a : Answer) → flat (l ++ (a ∷ [])) ≡ flat l ++ numbers_of a
 unfolding flat
 flat_more [] a = append-nil (numbers_of a)
 flat_more (x ∷ l) a = ap (λ (m : List ℤ). numbers_of x ++ m) (flat_more l a) ∙ sym (append_assoc (numbers_of x) (flat l) (numbers_of a))

@@ -11,7 +11,7 @@ sel_cond : (t : Bool) (x y : ℤ) → sel t x y ≡ cond t x y
 sel_cond true x y = refl
 sel_cond false x y = refl
 
-to_z_signed : (n : ℕ) → to_z w32 n ≡ signed n
+pub to_z_signed : (n : ℕ) → to_z w32 n ≡ signed n
 unfolding signed
 to_z_signed n =
     sel_cond (ltb n 0x80000000) (pos n) (negsuc (0x100000000 - suc n))
